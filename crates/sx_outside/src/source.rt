@@ -1,0 +1,24 @@
+ghost use Rattle.std.specs.Prelude.{◌≡◌, ◌<◌, ◌≤◌, List, Option, ℕ, length, take, IfOk, OnErr};
+ghost use Rattle.sx_outside.specs.Faults.{Rose};
+ghost use Rattle.sx_outside.specs.Transfer.{Takes};
+
+use crate::Failed;
+
+/// Gives bytes in pieces, to an end or for ever.
+pub trait Source {
+    /// The bytes left, where the source tells them.
+    ghost left: { Self → Option (List ℕ) };
+
+    /// How often the source has failed. The count stands still at 2^64 - 1.
+    ghost faults: { Self → ℕ };
+
+    /// Moves the next bytes to the front of the room, and tells how many: 0 at the end.
+    /// At `Failed` nothing was taken.
+    fn next(&mut self, room: &mut [u8]) -> Result<usize, Failed>
+        requires { 0 < length room.old }
+        ensures within { IfOk result (λ n. n ≤ length room.old) }
+        ensures taken { IfOk result (λ n. Takes (left self.old) (take n room.new) (left self.new)) }
+        ensures nothing_taken { OnErr result (left self.new ≡ left self.old) }
+        ensures cause { OnErr result (Rose (faults self.old) (faults self.new)) }
+        ensures never_falls { faults self.old ≤ faults self.new };
+}

@@ -1,0 +1,21 @@
+-- The piece that a volume holds for its next append.
+use Rattle.std.specs.Prelude.{◌≡◌, ◌≤◌, ◌+◌, ◌-◌, ℕ, List, [], Option, None, Some, length, take, drop}
+
+-- a piece is held for this place
+abbrev pub IsHeldFor : Option (ℕ × List ℕ) → ℕ → Type 0
+IsHeldFor None place = ⊥
+IsHeldFor (Some held) place = held.0 ≡ place
+
+abbrev pub length_of_held : Option (ℕ × List ℕ) → ℕ
+length_of_held None = 0
+length_of_held (Some held) = length held.1
+
+-- the range lies in the held piece, at the place that it is held for
+abbrev pub LiesInHeld : Option (ℕ × List ℕ) → ℕ → ℕ → Type 0
+LiesInHeld None at count = ⊥
+LiesInHeld (Some held) at count = (held.0 ≤ at) × (at + count ≤ held.0 + length held.1)
+
+-- the bytes of that range
+abbrev pub held_range : Option (ℕ × List ℕ) → ℕ → ℕ → List ℕ
+held_range None at count = []
+held_range (Some held) at count = take count (drop (at - held.0) held.1)

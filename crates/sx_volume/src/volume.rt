@@ -1,0 +1,138 @@
+ghost use Rattle.std.specs.Prelude.{◌≡◌, ◌+◌, ◌++◌, ◌<◌, ◌≤◌, ◌⊎◌, List, Option, Some, None, ℕ, Bool, IsTrue, length, take, drop, slice_set, OnOk, OnErr, IfOk, IfSome};
+ghost use Rattle.std.specs.Arc.{arc_value};
+ghost use Rattle.sx_outside.specs.Faults.{Rose};
+ghost use Rattle.sx_volume.specs.Counts.{plus};
+ghost use Rattle.sx_volume.specs.Held.{IsHeldFor, LiesInHeld, held_range, length_of_held};
+
+use crate::{ReadEnd, Spot};
+use std::alloc::{AllocError, Global};
+use std::sync::Arc;
+use sx_outside::Failed;
+
+/// The medium of a log: bytes that grow at the end, one writer, and spots for readers.
+///
+/// What is written may be lost or torn by a crash until a sync has succeeded.
+/// `append`, `put_byte`, `cut` and `sync` each use one spare call, which `ready` provides, and need no memory.
+pub trait Volume {
+    type Spot: Spot;
+
+    type End: ReadEnd<Spot = Self::Spot>;
+
+    /// The bytes as they are read, where the volume tells them.
+    ghost bytes: { Self → Option (List ℕ) };
+
+    /// The length in bytes.
+    ghost size: { Self → ℕ };
+
+    /// How often the volume has failed. The count stands still at 2^64 - 1.
+    ghost faults: { Self → ℕ };
+
+    /// How many of the calls that write can be made before the next `ready`.
+    ghost spare: { Self → ℕ };
+
+    /// How many bytes were read by `read_at`. The count stands still at 2^64 - 1.
+    ghost bytes_read: { Self → ℕ };
+
+    /// The piece that is held for the next append, and the place that it is held for.
+    ghost held: { Self → Option (ℕ × List ℕ) };
+
+    /// Nothing was written since the last sync that succeeded.
+    ghost calm: { Self → Bool };
+
+    /// The length in bytes.
+    fn len(&self) -> u64
+        ensures value { result ≡ size self.now }
+        ensures told { IfSome (bytes self.now) (λ all. length all ≡ result) };
+
+    /// Fills the room with the bytes from the place on. At `Failed` the room may hold anything.
+    fn read_at(&mut self, at: u64, room: &mut [u8]) -> Result<(), Failed>
+        requires { at + length room.old ≤ size self.old }
+        ensures filled { OnOk result (IfSome (bytes self.old) (λ all. room.new ≡ take (length room.old) (drop at all))) }
+        ensures same_bytes { bytes self.new ≡ bytes self.old }
+        ensures same_size { size self.new ≡ size self.old }
+        ensures same_held { held self.new ≡ held self.old }
+        ensures spare { spare self.old ≤ spare self.new }
+        ensures counted { bytes_read self.new ≡ plus (bytes_read self.old) (length room.old) }
+        ensures calm { IsTrue (calm self.old) → IsTrue (calm self.new) }
+        ensures cause { OnErr result (Rose (faults self.old) (faults self.new)) }
+        ensures never_falls { faults self.old ≤ faults self.new };
+
+    /// Keeps the piece for the append at that place, instead of one that was held before, and takes the memory
+    /// that the append will need. A refusal changes nothing.
+    fn hold(&mut self, alloc: Global, at: u64, piece: Arc<Vec<u8>>) -> Result<(), AllocError>
+        ensures ok { OnOk result (held self.new ≡ Some (at, (arc_value piece).items)) }
+        ensures err { OnErr result (held self.new ≡ held self.old) }
+        ensures same_bytes { bytes self.new ≡ bytes self.old }
+        ensures same_size { size self.new ≡ size self.old }
+        ensures same_read { bytes_read self.new ≡ bytes_read self.old }
+        ensures spare { spare self.old ≤ spare self.new }
+        ensures calm { IsTrue (calm self.old) → IsTrue (calm self.new) }
+        ensures never_falls { faults self.old ≤ faults self.new };
+
+    /// Makes the spare calls at least so many, by taking the memory that they need. A refusal changes nothing.
+    fn ready(&mut self, alloc: Global, calls: u32) -> Result<(), AllocError>
+        ensures ok { OnOk result (calls ≤ spare self.new) }
+        ensures spare { spare self.old ≤ spare self.new }
+        ensures err { OnErr result (spare self.new ≡ spare self.old) }
+        ensures same_bytes { bytes self.new ≡ bytes self.old }
+        ensures same_size { size self.new ≡ size self.old }
+        ensures same_held { held self.new ≡ held self.old }
+        ensures same_read { bytes_read self.new ≡ bytes_read self.old }
+        ensures calm { IsTrue (calm self.old) → IsTrue (calm self.new) }
+        ensures never_falls { faults self.old ≤ faults self.new };
+
+    /// Appends the held piece, which is held no more.
+    fn append(&mut self) -> Result<(), Failed>
+        requires held { IsHeldFor (held self.old) (size self.old) }
+        requires spare { 0 < spare self.old }
+        ensures appended { OnOk result (IfSome (held self.old) (λ piece. IfSome (bytes self.old) (λ all. bytes self.new ≡ Some (all ++ piece.1)))) }
+        ensures longer { OnOk result (size self.new ≡ size self.old + length_of_held (held self.old)) }
+        ensures held_no_more { OnOk result (held self.new ≡ None) }
+        ensures same_read { bytes_read self.new ≡ bytes_read self.old }
+        ensures spare { spare self.old ≤ spare self.new + 1 }
+        ensures cause { OnErr result (Rose (faults self.old) (faults self.new)) }
+        ensures never_falls { faults self.old ≤ faults self.new };
+
+    /// Writes one byte over the byte at that place.
+    fn put_byte(&mut self, at: u64, byte: u8) -> Result<(), Failed>
+        requires place { at < size self.old }
+        requires spare { 0 < spare self.old }
+        ensures written { OnOk result (IfSome (bytes self.old) (λ all. bytes self.new ≡ Some (slice_set all at byte))) }
+        ensures same_size { size self.new ≡ size self.old }
+        ensures same_held { held self.new ≡ held self.old }
+        ensures same_read { bytes_read self.new ≡ bytes_read self.old }
+        ensures spare { spare self.old ≤ spare self.new + 1 }
+        ensures cause { OnErr result (Rose (faults self.old) (faults self.new)) }
+        ensures never_falls { faults self.old ≤ faults self.new };
+
+    /// Makes the length `len`, by dropping what stands behind.
+    fn cut(&mut self, len: u64) -> Result<(), Failed>
+        requires place { len ≤ size self.old }
+        requires spare { 0 < spare self.old }
+        ensures cut { OnOk result (IfSome (bytes self.old) (λ all. bytes self.new ≡ Some (take len all))) }
+        ensures size { OnOk result (size self.new ≡ len) }
+        ensures same_held { held self.new ≡ held self.old }
+        ensures same_read { bytes_read self.new ≡ bytes_read self.old }
+        ensures spare { spare self.old ≤ spare self.new + 1 }
+        ensures cause { OnErr result (Rose (faults self.old) (faults self.new)) }
+        ensures never_falls { faults self.old ≤ faults self.new };
+
+    /// At `Ok` all that was written is kept through a crash, and the volume is calm.
+    fn sync(&mut self) -> Result<(), Failed>
+        requires { 0 < spare self.old }
+        ensures same_bytes { OnOk result (bytes self.new ≡ bytes self.old) }
+        ensures calm { OnOk result (IsTrue (calm self.new)) }
+        ensures same_size { size self.new ≡ size self.old }
+        ensures same_held { held self.new ≡ held self.old }
+        ensures same_read { bytes_read self.new ≡ bytes_read self.old }
+        ensures spare { spare self.old ≤ spare self.new + 1 }
+        ensures cause { OnErr result (Rose (faults self.old) (faults self.new)) }
+        ensures never_falls { faults self.old ≤ faults self.new };
+
+    /// A spot for a range of the held piece, or of a calm volume. What the spot tells never changes.
+    fn spot(&self, alloc: Global, at: u64, count: u32) -> Result<Self::Spot, AllocError>
+        requires { LiesInHeld (held self.now) at count ⊎ (IsTrue (calm self.now) × (at + count ≤ size self.now)) }
+        ensures bytes { IfOk result (λ spot. Self.Spot.count spot ≡ count) }
+        ensures held { IfOk result (λ spot. IfSome (bytes self.now) (λ all. LiesInHeld (held self.now) at count → Self.Spot.content spot ≡ Some (held_range (held self.now) at count))) }
+        ensures read { IfOk result (λ spot. IfSome (bytes self.now) (λ all. (LiesInHeld (held self.now) at count → ⊥) → Self.Spot.content spot ≡ Some (take count (drop at all)))) };
+}
