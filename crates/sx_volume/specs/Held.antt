@@ -6,9 +6,9 @@ abbrev pub IsHeldFor : Option (ℕ × List ℕ) → ℕ → Type 0
 IsHeldFor None place = ⊥
 IsHeldFor (Some held) place = held.0 ≡ place
 
-abbrev pub length_of_held : Option (ℕ × List ℕ) → ℕ
-length_of_held None = 0
-length_of_held (Some held) = length held.1
+abbrev pub held_piece : Option (ℕ × List ℕ) → List ℕ
+held_piece None = []
+held_piece (Some held) = held.1
 
 -- the range lies in the held piece, at the place that it is held for
 abbrev pub LiesInHeld : Option (ℕ × List ℕ) → ℕ → ℕ → Type 0
