@@ -1,0 +1,2 @@
+pub mod NumberStates
+pub mod NumberFronts
