@@ -1,2 +1,3 @@
 pub mod NumberStates
 pub mod NumberFronts
+pub mod NameLists

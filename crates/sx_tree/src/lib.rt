@@ -2,4 +2,6 @@
 #![tactic(auto)]
 
 pub mod literal;
+mod names;
 pub mod number;
+pub mod text;
