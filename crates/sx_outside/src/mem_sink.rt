@@ -1,7 +1,7 @@
 ghost use Rattle.std.specs.Prelude.{◌≡◌, ◌+◌, ◌<◌, ◌≤◌, ◌↔◌, ◌-◌, ◌⊎◌, [], length, take, min, Option, Some, IsErr, IfOk, OnErr, Contains};
 ghost use Rattle.sx_outside.specs.Faults.{Rose};
 ghost use Rattle.sx_outside.specs.Memory.{after_kept, after_refused};
-ghost use Rattle.sx_outside.specs.Transfer.{Gains};
+ghost use Rattle.sx_outside.specs.Transfer.{Gains, Stays};
 
 use crate::listed::is_listed;
 use crate::{Failed, Sink};
@@ -76,7 +76,7 @@ impl Sink for MemSink {
         ensures some { IfOk result (λ n. 0 < n) }
         ensures within { IfOk result (λ n. n ≤ length piece.now) }
         ensures put { IfOk result (λ n. Gains (Some self.old.written) (take n piece.now) (Some self.new.written)) }
-        ensures nothing_written { OnErr result (Some self.new.written ≡ Some self.old.written) }
+        ensures nothing_written { OnErr result (Stays (Some self.old.written) (Some self.new.written)) }
         ensures cause { OnErr result (Rose self.old.faults self.new.faults) }
         ensures never_falls { self.old.faults ≤ self.new.faults }
 

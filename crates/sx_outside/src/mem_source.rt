@@ -1,7 +1,7 @@
 ghost use Rattle.std.specs.Prelude.{◌≡◌, ◌+◌, ◌<◌, ◌≤◌, ◌↔◌, length, take, drop, min, Option, Some, IsErr, IfOk, OnErr, Contains, vec_items};
 ghost use Rattle.sx_outside.specs.Faults.{Rose};
 ghost use Rattle.sx_outside.specs.Memory.{after_gift, after_failed_gift};
-ghost use Rattle.sx_outside.specs.Transfer.{Takes};
+ghost use Rattle.sx_outside.specs.Transfer.{Takes, Stays};
 
 use crate::listed::is_listed;
 use crate::pieces::move_front;
@@ -69,7 +69,7 @@ impl Source for MemSource {
         requires { 0 < length room.old }
         ensures within { IfOk result (λ n. n ≤ length room.old) }
         ensures taken { IfOk result (λ n. Takes (Some self.old.left) (take n room.new) (Some self.new.left)) }
-        ensures nothing_taken { OnErr result (Some self.new.left ≡ Some self.old.left) }
+        ensures nothing_taken { OnErr result (Stays (Some self.old.left) (Some self.new.left)) }
         ensures cause { OnErr result (Rose self.old.faults self.new.faults) }
         ensures never_falls { self.old.faults ≤ self.new.faults }
 
