@@ -14,8 +14,11 @@ mod mem_sink;
 mod mem_source;
 mod open_gate;
 mod pieces;
+mod retries;
 mod sink;
 mod source;
+mod std_sink;
+mod std_source;
 mod still_clock;
 
 pub use clock::Clock;
@@ -27,4 +30,9 @@ pub use mem_source::MemSource;
 pub use open_gate::OpenGate;
 pub use sink::Sink;
 pub use source::Source;
+pub use std_sink::StdSink;
+pub use std_source::StdSource;
 pub use still_clock::StillClock;
+
+#[cfg(test)]
+mod tests;
