@@ -1,4 +1,4 @@
-ghost use Rattle.std.specs.Prelude.{◌≡◌, ◌<◌, ◌≤◌, ◌+◌, ◌++◌, [], ◌∷◌, List, Some, length, OnOk, OnErr, IfSome, IfOk, is_some, IsErrOf, slice_get};
+ghost use Rattle.std.specs.Prelude.{◌≡◌, ◌<◌, ◌≤◌, ◌+◌, ◌^◌, ◌++◌, [], ◌∷◌, List, Some, length, OnOk, OnErr, IfSome, IfOk, is_some, IsErrOf, slice_get};
 ghost use Rattle.sx_outside.specs.Faults.{Rose};
 ghost use Rattle.sx_layout.specs.Group.{Group, group_limit};
 ghost use Rattle.sx_log.specs.Keeps.{Keeps};
@@ -34,7 +34,8 @@ impl Model for Log {
 impl Log {
     /// How many commits there are.
     pub fn count(&self) -> usize
-        ensures { result ≡ length self.now }
+        ensures value { result ≡ length self.now }
+        ensures small { result < 2 ^ 63 }
     {
         self.groups.len()
     }

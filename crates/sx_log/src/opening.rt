@@ -19,6 +19,7 @@ pub fn open<V: Volume>(alloc: Global, volume: &mut V) -> Result<Log, LogFault>
     ensures kept { IfOk result (λ log. Keeps (V.bytes volume.new) (V.size volume.new) log) }
     ensures told { OnOk result (V.bytes volume.new ≡ option_map (λ _. CLOSED ∷ []) (V.bytes volume.old)) }
     ensures not_ours { IfErr result (λ fault. (first : ℕ) → fault ≡ LogFault.NotOurs first → (1 < V.size volume.old) × IfSome (V.bytes volume.old) (λ all. slice_get all 0 ≡ Some first)) }
+    ensures nothing_done { IsErrOf result LogFault.OutOfMemory → (V.bytes volume.new ≡ V.bytes volume.old) × (V.size volume.new ≡ V.size volume.old) }
     ensures cause { IsErrOf result LogFault.Failed → Rose (V.faults volume.old) (V.faults volume.new) }
     ensures never_falls { V.faults volume.old ≤ V.faults volume.new }
 {
@@ -46,6 +47,7 @@ fn make_gate<V: Volume>(alloc: Global, volume: &mut V) -> Result<(), LogFault>
     ensures size { OnOk result (V.size volume.new ≡ 1) }
     ensures told { OnOk result (V.bytes volume.new ≡ option_map (λ _. CLOSED ∷ []) (V.bytes volume.old)) }
     ensures not_ours { IfErr result (λ fault. (first : ℕ) → fault ≡ LogFault.NotOurs first → ⊥) }
+    ensures nothing_done { IsErrOf result LogFault.OutOfMemory → (V.bytes volume.new ≡ V.bytes volume.old) × (V.size volume.new ≡ V.size volume.old) }
     ensures cause { IsErrOf result LogFault.Failed → Rose (V.faults volume.old) (V.faults volume.new) }
     ensures never_falls { V.faults volume.old ≤ V.faults volume.new }
 {

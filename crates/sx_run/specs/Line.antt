@@ -34,4 +34,4 @@ Says line (command said) = (length line ≤ line_limit) × Spells (without_retur
 Says line no_command =
     (line_limit < length line)
     ⊎ ((length line ≤ line_limit) × (is_skipped (without_return line) ≡ false)
-        × ((said : Command) → Spells (without_return line) said → ⊥))
+    × ((said : Command) → Spells (without_return line) said → ⊥))

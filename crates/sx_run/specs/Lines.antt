@@ -1,5 +1,5 @@
 -- A script is cut into lines, each without its line feed.
-use Rattle.std.specs.Prelude.{ℕ, ◌==◌, if◌then◌else◌, List, [], ◌∷◌}
+use Rattle.std.specs.Prelude.{ℕ, ◌≢◌, ◌==◌, if◌then◌else◌, List, [], ◌∷◌, ◌++◌}
 
 -- the byte comes before the first of the lines, which begins with it where there was none
 abbrev pub before_first : ℕ → List (List ℕ) → List (List ℕ)
@@ -19,3 +19,17 @@ before_first_ended byte (line ∷ lines) = (byte ∷ line) ∷ lines
 abbrev pub ended_lines_of : List ℕ → List (List ℕ)
 ended_lines_of [] = []
 ended_lines_of (byte ∷ text) = if byte == 10 then [] ∷ ended_lines_of text else before_first_ended byte (ended_lines_of text)
+
+-- there is no line feed among the bytes
+abbrev pub HasNoFeed : List ℕ → Type 0
+HasNoFeed [] = Unit {0}
+HasNoFeed (byte ∷ bytes) = (byte ≢ 10) × HasNoFeed bytes
+
+abbrev pub HaveNoFeeds : List (List ℕ) → Type 0
+HaveNoFeeds [] = Unit {0}
+HaveNoFeeds (line ∷ lines) = HasNoFeed line × HaveNoFeeds lines
+
+-- the lines, each with a line feed behind it
+abbrev pub fed : List (List ℕ) → List ℕ
+fed [] = []
+fed (line ∷ lines) = line ++ 10 ∷ fed lines

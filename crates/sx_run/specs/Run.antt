@@ -42,8 +42,8 @@ next_commit course moment = record { time = int_max moment (last_time first_time
 abbrev pub Answers : Course → Command → Reply → Course → Type 0
 Answers old (edit asked) reply new =
     MatchResult (apply asked (current old))
-        (λ state. (reply ≡ first (current old).next) × (new ≡ record old { edits = old.edits ++ asked ∷ [] }))
-        (λ refusal. (reply ≡ edit_refused refusal) × (new ≡ old))
+    (λ state. (reply ≡ first (current old).next) × (new ≡ record old { edits = old.edits ++ asked ∷ [] }))
+    (λ refusal. (reply ≡ edit_refused refusal) × (new ≡ old))
 Answers old commit reply new =
     (moment : ℤ) × FitsSigned w64 moment × Ticks old.moments moment new.moments
     × (reply ≡ committed (length old.commits + 1) (next_commit old moment).time)
@@ -51,8 +51,8 @@ Answers old commit reply new =
 -- an open looks, and sees all commits
 Answers old (open_number revision) reply new =
     MatchBool (nat_le revision (length old.commits))
-        ((reply ≡ opened revision) × (new ≡ record old { revision = revision; seen = length old.commits }))
-        ((reply ≡ missing revision (length old.commits)) × (new ≡ record old { seen = length old.commits }))
+    ((reply ≡ opened revision) × (new ≡ record old { revision = revision; seen = length old.commits }))
+    ((reply ≡ missing revision (length old.commits)) × (new ≡ record old { seen = length old.commits }))
 Answers old ask_text reply new = (reply ≡ text_reply (state_of old.commits old.revision).child) × (new ≡ old)
 
 -- What an item writes, and what it leaves.

@@ -1,0 +1,20 @@
+-- Lines that spell no command.
+use Rattle.std.proofs.Common.{◌≡◌, ℕ, List, Option, None, Some, IfNone, refl}
+use Rattle.std.specs.Prelude.{codes}
+use Rattle.sx_model.specs.Edit.{Edit, load}
+use Rattle.sx_model.specs.Value.{Value}
+use Rattle.sx_run.specs.Command.{Command, Spells, edit, commit, open_number, ask_text}
+
+pub none_spelt : (line : List ℕ)
+    → (line ≡ codes "commit" → ⊥) → (line ≡ codes "text 0" → ⊥)
+    → ((value : Value) → Spells line (edit (load value)) → ⊥) → ((revision : ℕ) → Spells line (open_number revision) → ⊥)
+    → (said : Command) → Spells line said → ⊥
+none_spelt line no_commit no_text no_load no_open (edit (load value)) spells = no_load value spells
+none_spelt line no_commit no_text no_load no_open commit spells = no_commit spells
+none_spelt line no_commit no_text no_load no_open (open_number revision) spells = no_open revision spells
+none_spelt line no_commit no_text no_load no_open ask_text spells = no_text spells
+
+-- what holds where nothing was found
+pub at_none : {A : Type 0} (found : Option A) (P : Type 0) → ((x : A) → found ≡ Some x → ⊥) → IfNone found P → P
+at_none None P never holds = holds
+at_none (Some x) P never holds = absurd (never x refl)

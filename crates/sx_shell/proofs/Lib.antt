@@ -1,0 +1,10 @@
+pub mod Commands
+pub mod Feeds
+pub mod Kept
+pub mod Numbers
+pub mod Trimmed
+pub mod Pulling
+pub mod Desks
+pub mod Groups
+pub mod Progresses
+pub mod Standing

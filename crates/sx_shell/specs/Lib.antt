@@ -1,0 +1,10 @@
+pub mod Code
+pub mod Ends
+pub mod Meant
+pub mod Outcome
+pub mod Progress
+pub mod Said
+pub mod Served
+pub mod Shows
+pub mod Waiting
+pub mod Words

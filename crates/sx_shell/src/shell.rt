@@ -1,0 +1,178 @@
+ghost use Rattle.std.specs.Prelude.{◌≡◌, ◌≢◌, ◌<◌, ◌≤◌, ◌++◌, ◌↔◌, ◌⊎◌, [], List, ℕ, Some, IfSome, IfErr, OnOk, OnErr, IsErrOf, is_some, length, map, slice_get, vec_len, Err};
+ghost use Rattle.std.specs.String.{string_bytes};
+ghost use Rattle.sx_outside.specs.Faults.{Rose};
+ghost use Rattle.sx_log.specs.Keeps.{Keeps};
+ghost use Rattle.sx_layout.specs.Stands.{Stands, groups_of};
+ghost use Rattle.sx_run.specs.Run.{Course, Step, started};
+ghost use Rattle.sx_shell.specs.Ends.{IsAfterOpening, IsInLine};
+ghost use Rattle.sx_shell.specs.Outcome.{Outcome};
+ghost use Rattle.sx_shell.specs.Progress.{Progress, Ended, Advanced};
+ghost use Rattle.sx_shell.specs.Served.{IsServed};
+ghost use Rattle.sx_shell.specs.Shows.{Shows};
+ghost use Rattle.sx_shell.specs.Waiting.{waiting};
+ghost use Rattle.sx_shell.specs.Words.{IsLive};
+
+use crate::Status;
+use crate::desk::{Desk, Stop};
+use crate::reader::{LineReader, PullFault, Pulled};
+use crate::words::is_live;
+use crate::write::write_all;
+use std::alloc::Global;
+use std::sync::Wait;
+use sx_log::LogFault;
+use sx_outside::{Clock, Gate, Sink, Source};
+use sx_volume::Volume;
+
+/// Does all that `sirix live FILE` does: opens the volume, runs the script that the source gives, and writes
+/// the replies to the sink.
+///
+/// The words are those behind the program's name. End 0 is for the writer's client, and end i for reader i;
+/// they and the gate are not used yet.
+/// `Usage` comes exactly where the words are no command; `ReadFault`, `WriteFault` and `VolumeFault` only where the
+/// source, the sink or the volume failed; `NotOurs` exactly for a volume of more than one byte that could be read.
+pub fn run_live<R: Wait, V: Volume, S: Source, K: Sink, C: Clock, G: Gate>(
+    rt: &R,
+    alloc: Global,
+    words: &[String],
+    volume: &mut V,
+    ends: &mut Vec<V::End>,
+    source: &mut S,
+    sink: &mut K,
+    clock: &mut C,
+    gate: &G,
+) -> Status
+    requires { vec_len ends.old ≡ 32 }
+
+    // Over a volume of at most one byte, the bytes written are those of a run over the script's lines, as far as
+    // the status says, and the volume then stands for the commits of that run.
+    ensures run { (image input before : List ℕ) → V.bytes volume.old ≡ Some image → length image ≤ 1
+        → S.left source.old ≡ Some input → K.written sink.old ≡ Some before
+        → (left written : List ℕ) × (end : Course) × (S.left source.new ≡ Some left) × (K.written sink.new ≡ Some (before ++ written))
+        × Outcome (started [] (C.moments clock.old)) input left result written end
+        × (result ≢ Status.VolumeFault → (final : List ℕ) × (V.bytes volume.new ≡ Some final) × Stands final end.commits) }
+
+    ensures usage { (result ≡ Status.Usage) ↔ (IsLive (map string_bytes words.now) → ⊥) }
+    ensures read_fault { result ≡ Status.ReadFault → Rose (S.faults source.old) (S.faults source.new) }
+    ensures write_fault { result ≡ Status.WriteFault → Rose (K.faults sink.old) (K.faults sink.new) }
+    ensures volume_fault { result ≡ Status.VolumeFault → Rose (V.faults volume.old) (V.faults volume.new) }
+    ensures not_ours { (first : ℕ) → result ≡ Status.NotOurs first → (1 < V.size volume.old) × IfSome (V.bytes volume.old) (λ all. slice_get all 0 ≡ Some first) }
+    ensures longer { IsLive (map string_bytes words.now) → 1 < V.size volume.old
+        → ((first : ℕ) × (result ≡ Status.NotOurs first)) ⊎ (result ≡ Status.VolumeFault) ⊎ (result ≡ Status.OutOfMemory) }
+    ensures source_faults { S.faults source.old ≤ S.faults source.new }
+    ensures sink_faults { K.faults sink.old ≤ K.faults sink.new }
+    ensures volume_faults { V.faults volume.old ≤ V.faults volume.new }
+{
+    if !is_live(words) {
+        return Status::Usage;
+    }
+    let log = match sx_log::open(alloc, volume) {
+        Ok(log) => log,
+        Err(LogFault::Failed) => return Status::VolumeFault,
+        Err(LogFault::NotOurs { first }) => return Status::NotOurs { first },
+        Err(LogFault::OutOfMemory) => return Status::OutOfMemory,
+    };
+    let mut desk = Desk::new(log);
+    drive(rt, alloc, &mut desk, volume, source, sink, clock)
+}
+
+// Runs the script from its first line on.
+fn drive<R: Wait, V: Volume, S: Source, K: Sink, C: Clock>(
+    rt: &R,
+    alloc: Global,
+    desk: &mut Desk,
+    volume: &mut V,
+    source: &mut S,
+    sink: &mut K,
+    clock: &mut C,
+) -> Status
+    requires kept { Keeps (V.bytes volume.old) (V.size volume.old) desk.old.log }
+    ensures run { (start : Course) (input before : List ℕ) → S.left source.old ≡ Some input → K.written sink.old ≡ Some before
+        → Shows desk.old start → start.moments ≡ C.moments clock.old
+        → Ended start input before (S.left source.new) (K.written sink.new) desk.new result }
+    ensures kept { result ≢ Status.VolumeFault → Keeps (V.bytes volume.new) (V.size volume.new) desk.new.log }
+    ensures told { result ≢ Status.VolumeFault → is_some (V.bytes volume.new) ≡ is_some (V.bytes volume.old) }
+    ensures after_opening { IsAfterOpening result }
+    ensures read_fault { result ≡ Status.ReadFault → Rose (S.faults source.old) (S.faults source.new) }
+    ensures write_fault { result ≡ Status.WriteFault → Rose (K.faults sink.old) (K.faults sink.new) }
+    ensures volume_fault { result ≡ Status.VolumeFault → Rose (V.faults volume.old) (V.faults volume.new) }
+    ensures source_faults { S.faults source.old ≤ S.faults source.new }
+    ensures sink_faults { K.faults sink.old ≤ K.faults sink.new }
+    ensures volume_faults { V.faults volume.old ≤ V.faults volume.new }
+{
+    let Ok(mut reader) = LineReader::new(alloc) else {
+        return Status::OutOfMemory;
+    };
+    for _ in rt.forever() {
+        if let Some(status) = advance(alloc, desk, &mut reader, volume, source, sink, clock) {
+            return status;
+        }
+    }
+    unreachable!()
+}
+
+// Takes one step of reading, and runs the line that it gives, where it gives one. The result is how the run ended.
+fn advance<V: Volume, S: Source, K: Sink, C: Clock>(
+    alloc: Global,
+    desk: &mut Desk,
+    reader: &mut LineReader,
+    volume: &mut V,
+    source: &mut S,
+    sink: &mut K,
+    clock: &mut C,
+) -> Option<Status>
+    requires kept { Keeps (V.bytes volume.old) (V.size volume.old) desk.old.log }
+    ensures run { (start : Course) (input before : List ℕ)
+        → Progress start input before (S.left source.old) (K.written sink.old) (waiting reader.old) desk.old (C.moments clock.old)
+        → Advanced start input before (S.left source.new) (K.written sink.new) (waiting reader.new) desk.new (C.moments clock.new) result }
+    ensures kept { result ≢ Some Status.VolumeFault → Keeps (V.bytes volume.new) (V.size volume.new) desk.new.log }
+    ensures told { result ≢ Some Status.VolumeFault → is_some (V.bytes volume.new) ≡ is_some (V.bytes volume.old) }
+    ensures after_opening { IfSome result IsAfterOpening }
+    ensures read_fault { result ≡ Some Status.ReadFault → Rose (S.faults source.old) (S.faults source.new) }
+    ensures write_fault { result ≡ Some Status.WriteFault → Rose (K.faults sink.old) (K.faults sink.new) }
+    ensures volume_fault { result ≡ Some Status.VolumeFault → Rose (V.faults volume.old) (V.faults volume.new) }
+    ensures source_faults { S.faults source.old ≤ S.faults source.new }
+    ensures sink_faults { K.faults sink.old ≤ K.faults sink.new }
+    ensures volume_faults { V.faults volume.old ≤ V.faults volume.new }
+{
+    match reader.pull(source) {
+        Ok(Pulled::Line(line)) => serve(alloc, desk, volume, sink, clock, &line),
+        Ok(Pulled::Last(line)) => match serve(alloc, desk, volume, sink, clock, &line) {
+            None => Some(Status::Done),
+            Some(status) => Some(status),
+        },
+        Ok(Pulled::More) => None,
+        Ok(Pulled::End) => Some(Status::Done),
+        Err(PullFault::Failed) => Some(Status::ReadFault),
+        Err(PullFault::OutOfMemory) => Some(Status::OutOfMemory),
+    }
+}
+
+// Runs one line and writes its reply. The result is how the run ended.
+fn serve<V: Volume, K: Sink, C: Clock>(
+    alloc: Global,
+    desk: &mut Desk,
+    volume: &mut V,
+    sink: &mut K,
+    clock: &mut C,
+    line: &[u8],
+) -> Option<Status>
+    requires kept { Keeps (V.bytes volume.old) (V.size volume.old) desk.old.log }
+    ensures served { (before : List ℕ) (course : Course) → K.written sink.old ≡ Some before → Shows desk.old course → course.moments ≡ C.moments clock.old
+        → IsServed course line.now before (K.written sink.new) (C.moments clock.new) desk.old desk.new result }
+    ensures kept { result ≢ Some Status.VolumeFault → Keeps (V.bytes volume.new) (V.size volume.new) desk.new.log }
+    ensures told { result ≢ Some Status.VolumeFault → is_some (V.bytes volume.new) ≡ is_some (V.bytes volume.old) }
+    ensures in_line { IfSome result IsInLine }
+    ensures write_fault { result ≡ Some Status.WriteFault → Rose (K.faults sink.old) (K.faults sink.new) }
+    ensures volume_fault { result ≡ Some Status.VolumeFault → Rose (V.faults volume.old) (V.faults volume.new) }
+    ensures sink_faults { K.faults sink.old ≤ K.faults sink.new }
+    ensures volume_faults { V.faults volume.old ≤ V.faults volume.new }
+{
+    match desk.run_line(alloc, volume, clock, line) {
+        Ok(reply) => match write_all(sink, &reply) {
+            Ok(()) => None,
+            Err(_) => Some(Status::WriteFault),
+        },
+        Err(Stop::OutOfMemory) => Some(Status::OutOfMemory),
+        Err(Stop::VolumeFailed) => Some(Status::VolumeFault),
+    }
+}
