@@ -4,10 +4,17 @@
 //! write need no memory: what they need is taken before, by `ready` and `hold`.
 #![tactic(auto)]
 
+mod calls;
 mod end;
+mod mem_end;
+mod mem_spot;
+mod mem_volume;
 mod spot;
 mod volume;
 
 pub use end::ReadEnd;
+pub use mem_end::MemEnd;
+pub use mem_spot::MemSpot;
+pub use mem_volume::MemVolume;
 pub use spot::Spot;
 pub use volume::Volume;
