@@ -5,6 +5,7 @@
 #![tactic(auto)]
 
 mod calls;
+mod content;
 mod end;
 mod mem_end;
 mod mem_spot;

@@ -1,25 +1,29 @@
-ghost use Rattle.std.specs.Prelude.{◌≡◌, ◌+◌, ◌-◌, ◌++◌, ◌<◌, ◌≤◌, ◌↔◌, ◌⊎◌, List, Option, Some, None, ℕ, Bool, true, IsTrue, length, take, drop, slice_set, IsErr, OnOk, OnErr, IfOk, IfSome, MatchOption, vec_len, vec_capacity};
+ghost use Rattle.std.specs.Prelude.{◌≡◌, ◌+◌, ◌-◌, ◌++◌, ◌<◌, ◌≤◌, ◌↔◌, ◌⊎◌, [], ◌∷◌, List, Option, Some, None, ℕ, IsTrue, IsSome, length, take, drop, slice_set, IsErr, OnOk, OnErr, IfOk, IfSome, MatchOption};
 ghost use Rattle.std.specs.Arc.{arc_value};
 ghost use Rattle.sx_outside.specs.Faults.{Rose};
+ghost use Rattle.sx_volume.specs.Change.{AreBytes, image_of};
 ghost use Rattle.sx_volume.specs.Counts.{plus};
-ghost use Rattle.sx_volume.specs.Held.{IsHeldFor, LiesInHeld, held_range, length_of_held};
-ghost use Rattle.sx_volume.specs.HeldPiece.{place_and_bytes};
-ghost use Rattle.sx_volume.specs.Medium.{after_failure, after_read, after_failed_read, after_append, after_put, after_cut, after_sync};
+ghost use Rattle.sx_volume.specs.Held.{IsHeldFor, LiesInHeld, held_piece, held_range, length_of_held};
+ghost use Rattle.sx_volume.specs.Images.{Only, IsWithin, Follows, Appends, Puts, Cuts, Elapses};
+ghost use Rattle.sx_volume.specs.Kept.{place_and_bytes};
+ghost use Rattle.sx_volume.specs.Medium.{Medium, pending, bytes_of, is_calm, moment_of, MayLeave, MayHaveLeft, after_failure, after_read, after_failed_read, after_append, after_put, after_cut, after_sync};
+ghost use Rattle.sx_volume.specs.Replay.{counts_now, only_now, as_read};
 ghost use Rattle.sx_volume.specs.Tally.{FailsNext};
 
 use crate::calls::Calls;
+use crate::content::Content;
 use crate::{MemEnd, MemSpot, Volume};
 use std::alloc::{AllocError, Global};
 use std::marker::Model;
 use std::sync::Arc;
 use sx_outside::Failed;
 
-// A call that changed or synced the volume.
+// A call that changed the volume or synced it.
 #[derive(Drop)]
-enum Change {
+enum Call {
     Append(Arc<Vec<u8>>),
-    Put { at: u64, byte: u8 },
-    Cut { len: u64 },
+    PutByte { at: usize, byte: u8 },
+    Cut { len: usize },
     Sync,
 }
 
@@ -30,35 +34,29 @@ struct HeldPiece {
 }
 
 /// A volume in memory, which tells its bytes and fails where it is told to.
+///
+/// It keeps a record of its calls, from which all that a crash may leave at each moment is known.
 #[derive(Drop)]
 pub struct MemVolume {
-    bytes: Vec<u8>,
+    first: Vec<u8>,
+    calls: Vec<Call>,
+    content: Content,
     held: Option<HeldPiece>,
-    calm: bool,
-    changes: Vec<Change>,
-    calls: Calls,
+    spare: usize,
+    tally: Calls,
     bytes_read: u64,
 }
 
 impl Model for MemVolume {
-    ghost use Rattle.std.specs.Prelude.{◌-◌, ◌≤◌, vec_len, vec_capacity};
     ghost use Rattle.sx_volume.specs.Medium.{Medium};
 
     ghost Value = { Medium };
 
-    ghost use Rattle.sx_volume.specs.Held.{held_end};
-    ghost use Rattle.sx_volume.specs.HeldPiece.{place_and_bytes};
+    ghost use Rattle.sx_volume.specs.Kept.{medium_in, IsKept};
 
-    ghost view = { λ v. record {
-      bytes = v.bytes.items;
-      held = place_and_bytes v.held;
-      calm = v.calm;
-      spare = vec_capacity v.changes - vec_len v.changes;
-      tally = v.calls;
-      bytes_read = v.bytes_read;
-    } };
+    ghost view = { medium_in };
 
-    ghost invariant = { λ v. held_end (place_and_bytes v.held) ≤ vec_capacity v.bytes };
+    ghost invariant = { IsKept };
 }
 
 impl MemVolume {
@@ -67,39 +65,105 @@ impl MemVolume {
     /// Errors: `AllocError` where memory runs out.
     pub fn new(alloc: Global, bytes: Vec<u8>, failing: Vec<u64>) -> Result<MemVolume, AllocError>
         ensures { IfOk result (λ volume. volume ≡ record {
-          bytes = bytes.items;
+          first = bytes.items;
+          changes = [];
           held = None;
-          calm = true;
           spare = 0;
           tally = record { calls = 0; failing = failing.items; faults = 0 };
           bytes_read = 0;
         }) }
     {
         Ok(MemVolume {
-            bytes,
+            first: bytes.to_vec(alloc)?,
+            calls: Vec::new(alloc),
+            content: Content::new(alloc, bytes),
             held: None,
-            calm: true,
-            changes: Vec::new(alloc),
-            calls: Calls::new(failing),
+            spare: 0,
+            tally: Calls::new(failing),
             bytes_read: 0,
         })
     }
 
     /// All the bytes, as they are read.
     pub fn as_slice(&self) -> &[u8]
-        ensures { result.now ≡ self.now.bytes }
+        ensures { result.now ≡ bytes_of self.now }
     {
-        &self.bytes
+        &self.content.bytes
     }
-}
 
-// Makes the room at least so many bytes.
-fn reserve_to(bytes: &mut Vec<u8>, end: usize) -> Result<(), AllocError>
-    ensures ok { OnOk result (end ≤ vec_capacity bytes.new) }
-    ensures items { bytes.new.items ≡ bytes.old.items }
-    ensures capacity { vec_capacity bytes.old ≤ vec_capacity bytes.new }
-{
-    bytes.reserve(end.saturating_sub(bytes.len()))
+    /// One of the images that a crash may leave now. Behind the least length since the last sync that succeeded it has
+    /// the tail, as far as that goes and at most up to the greatest length since then, and ends there. Each byte that
+    /// `put_byte` wrote since then is the gate.
+    /// Errors: `AllocError` where memory runs out.
+    pub fn image(&self, alloc: Global, tail: &[u8], gate: u8) -> Result<Vec<u8>, AllocError>
+        ensures value { IfOk result (λ image. image.items ≡ image_of (pending self.now) tail.now gate) }
+        ensures image { IfOk result (λ image. MayLeave self.now image.items) }
+    {
+        self.content.image(alloc, tail, gate)
+    }
+
+    fn append_held(&mut self) -> Result<(), Failed>
+        requires held { IsHeldFor self.old.held (length (bytes_of self.old)) }
+        requires spare { 0 < self.old.spare }
+        ensures fails { IsErr result ↔ FailsNext self.old.tally }
+        ensures done { OnOk result (self.new ≡ after_append self.old) }
+        ensures piece { OnOk result (AreBytes (held_piece self.old.held)) }
+        ensures failed { OnErr result (self.new ≡ after_failure self.old) }
+        ensures never_falls { self.old.tally.faults ≤ self.new.tally.faults }
+    {
+        self.tally.count()?;
+        let Some(HeldPiece { at: _, piece }) = self.held.take() else {
+            unreachable!("the caller holds a piece");
+        };
+        self.content.append(piece.as_slice());
+        self.calls.push_reserved(Call::Append(piece));
+        self.spare -= 1;
+        Ok(())
+    }
+
+    fn put(&mut self, at: usize, byte: u8) -> Result<(), Failed>
+        requires place { at < length (bytes_of self.old) }
+        requires spare { 0 < self.old.spare }
+        ensures fails { IsErr result ↔ FailsNext self.old.tally }
+        ensures done { OnOk result (self.new ≡ after_put self.old at byte) }
+        ensures failed { OnErr result (self.new ≡ after_failure self.old) }
+        ensures never_falls { self.old.tally.faults ≤ self.new.tally.faults }
+    {
+        self.tally.count()?;
+        self.content.put(at, byte);
+        self.calls.push_reserved(Call::PutByte { at, byte });
+        self.spare -= 1;
+        Ok(())
+    }
+
+    fn cut_to(&mut self, len: usize) -> Result<(), Failed>
+        requires place { len ≤ length (bytes_of self.old) }
+        requires spare { 0 < self.old.spare }
+        ensures fails { IsErr result ↔ FailsNext self.old.tally }
+        ensures done { OnOk result (self.new ≡ after_cut self.old len) }
+        ensures failed { OnErr result (self.new ≡ after_failure self.old) }
+        ensures never_falls { self.old.tally.faults ≤ self.new.tally.faults }
+    {
+        self.tally.count()?;
+        self.content.cut(len);
+        self.calls.push_reserved(Call::Cut { len });
+        self.spare -= 1;
+        Ok(())
+    }
+
+    fn keep(&mut self) -> Result<(), Failed>
+        requires { 0 < self.old.spare }
+        ensures fails { IsErr result ↔ FailsNext self.old.tally }
+        ensures done { OnOk result (self.new ≡ after_sync self.old) }
+        ensures failed { OnErr result (self.new ≡ after_failure self.old) }
+        ensures never_falls { self.old.tally.faults ≤ self.new.tally.faults }
+    {
+        self.tally.count()?;
+        self.content.sync();
+        self.calls.push_reserved(Call::Sync);
+        self.spare -= 1;
+        Ok(())
+    }
 }
 
 // The range of the held piece, where it lies there.
@@ -123,9 +187,9 @@ impl Volume for MemVolume {
 
     type End = MemEnd;
 
-    ghost bytes = { λ volume. Some volume.bytes };
+    ghost bytes = { λ volume. Some (bytes_of volume) };
 
-    ghost size = { λ volume. length volume.bytes };
+    ghost size = { λ volume. length (bytes_of volume) };
 
     ghost faults = { λ volume. volume.tally.faults };
 
@@ -135,50 +199,68 @@ impl Volume for MemVolume {
 
     ghost held = { λ volume. volume.held };
 
-    ghost calm = { λ volume. volume.calm };
+    ghost calm = { is_calm };
+
+    ghost moment = { moment_of };
+
+    ghost is_image = { MayLeave };
+
+    ghost was_image = { MayHaveLeft };
+
+    ghost counts_now = { λ volume. counts_now volume.first volume.changes };
+
+    ghost only_now = { λ volume. only_now volume.first volume.changes };
+
+    ghost reads = { λ volume. as_read volume.first volume.changes };
 
     fn len(&self) -> u64 {
-        self.bytes.len() as u64
+        self.content.bytes.len() as u64
     }
 
     fn read_at(&mut self, at: u64, room: &mut [u8]) -> Result<(), Failed>
-        requires { at + length room.old ≤ length self.old.bytes }
-        ensures filled { OnOk result (room.new ≡ take (length room.old) (drop at self.old.bytes)) }
-        ensures same_bytes { Some self.new.bytes ≡ Some self.old.bytes }
-        ensures same_size { length self.new.bytes ≡ length self.old.bytes }
+        requires { at + length room.old ≤ length (bytes_of self.old) }
+        ensures filled { OnOk result (room.new ≡ take (length room.old) (drop at (bytes_of self.old))) }
+        ensures same_bytes { Some (bytes_of self.new) ≡ Some (bytes_of self.old) }
+        ensures same_size { length (bytes_of self.new) ≡ length (bytes_of self.old) }
         ensures same_held { self.new.held ≡ self.old.held }
         ensures spare { self.old.spare ≤ self.new.spare }
         ensures counted { self.new.bytes_read ≡ plus self.old.bytes_read (length room.old) }
-        ensures calm { IsTrue self.old.calm → IsTrue self.new.calm }
+        ensures calm { IsTrue (is_calm self.old) → IsTrue (is_calm self.new) }
         ensures cause { OnErr result (Rose self.old.tally.faults self.new.tally.faults) }
         ensures never_falls { self.old.tally.faults ≤ self.new.tally.faults }
+        ensures no_image_more { IsWithin (MayLeave self.old) (MayHaveLeft self.new (moment_of self.old)) }
+        ensures no_image_less { IsWithin (MayLeave self.new) (MayLeave self.old) }
+        ensures time { Elapses (moment_of self.old) (moment_of self.new) (MayHaveLeft self.old) (MayHaveLeft self.new) }
 
         ensures fails { IsErr result ↔ FailsNext self.old.tally }
         ensures read { OnOk result (self.new ≡ after_read self.old (length room.old)) }
         ensures failed { OnErr result (self.new ≡ after_failed_read self.old (length room.old)) }
     {
         self.bytes_read = self.bytes_read.saturating_add(room.len() as u64);
-        self.calls.count()?;
+        self.tally.count()?;
         let at = at as usize;
-        room.copy_from_slice(&self.bytes[at..at + room.len()]);
+        room.copy_from_slice(&self.content.bytes[at..at + room.len()]);
         Ok(())
     }
 
     fn hold(&mut self, _alloc: Global, at: u64, piece: Arc<Vec<u8>>) -> Result<(), AllocError>
         ensures ok { OnOk result (self.new.held ≡ Some (at, (arc_value piece).items)) }
         ensures err { OnErr result (self.new.held ≡ self.old.held) }
-        ensures same_bytes { Some self.new.bytes ≡ Some self.old.bytes }
-        ensures same_size { length self.new.bytes ≡ length self.old.bytes }
+        ensures same_bytes { Some (bytes_of self.new) ≡ Some (bytes_of self.old) }
+        ensures same_size { length (bytes_of self.new) ≡ length (bytes_of self.old) }
         ensures same_read { self.new.bytes_read ≡ self.old.bytes_read }
         ensures spare { self.old.spare ≤ self.new.spare }
-        ensures calm { IsTrue self.old.calm → IsTrue self.new.calm }
+        ensures calm { IsTrue (is_calm self.old) → IsTrue (is_calm self.new) }
         ensures never_falls { self.old.tally.faults ≤ self.new.tally.faults }
+        ensures no_image_more { IsWithin (MayLeave self.old) (MayHaveLeft self.new (moment_of self.old)) }
+        ensures no_image_less { IsWithin (MayLeave self.new) (MayLeave self.old) }
+        ensures time { Elapses (moment_of self.old) (moment_of self.new) (MayHaveLeft self.old) (MayHaveLeft self.new) }
 
         ensures holds { OnOk result (self.new ≡ record self.old { held = Some (at, (arc_value piece).items) }) }
         ensures refused { OnErr result (self.new ≡ self.old) }
     {
         let end = (at as usize).checked_add(piece.len()).ok_or(AllocError)?;
-        reserve_to(&mut self.bytes, end)?;
+        self.content.reserve_to(end)?;
         self.held = Some(HeldPiece { at, piece });
         Ok(())
     }
@@ -187,115 +269,120 @@ impl Volume for MemVolume {
         ensures ok { OnOk result (calls ≤ self.new.spare) }
         ensures spare { self.old.spare ≤ self.new.spare }
         ensures err { OnErr result (self.new.spare ≡ self.old.spare) }
-        ensures same_bytes { Some self.new.bytes ≡ Some self.old.bytes }
-        ensures same_size { length self.new.bytes ≡ length self.old.bytes }
+        ensures same_bytes { Some (bytes_of self.new) ≡ Some (bytes_of self.old) }
+        ensures same_size { length (bytes_of self.new) ≡ length (bytes_of self.old) }
         ensures same_held { self.new.held ≡ self.old.held }
         ensures same_read { self.new.bytes_read ≡ self.old.bytes_read }
-        ensures calm { IsTrue self.old.calm → IsTrue self.new.calm }
+        ensures calm { IsTrue (is_calm self.old) → IsTrue (is_calm self.new) }
         ensures never_falls { self.old.tally.faults ≤ self.new.tally.faults }
+        ensures no_image_more { IsWithin (MayLeave self.old) (MayHaveLeft self.new (moment_of self.old)) }
+        ensures no_image_less { IsWithin (MayLeave self.new) (MayLeave self.old) }
+        ensures time { Elapses (moment_of self.old) (moment_of self.new) (MayHaveLeft self.old) (MayHaveLeft self.new) }
 
         ensures readied { self.new ≡ record self.old { spare = self.new.spare } }
     {
-        self.changes.reserve(calls as usize)
+        let calls = calls as usize;
+        if self.spare < calls {
+            self.calls.reserve(calls)?;
+            self.content.places.reserve(calls)?;
+            self.spare = calls;
+        }
+        Ok(())
     }
 
     fn append(&mut self) -> Result<(), Failed>
-        requires held { IsHeldFor self.old.held (length self.old.bytes) }
+        requires held { IsHeldFor self.old.held (length (bytes_of self.old)) }
         requires spare { 0 < self.old.spare }
-        ensures appended { OnOk result (IfSome self.old.held (λ piece. Some self.new.bytes ≡ Some (self.old.bytes ++ piece.1))) }
-        ensures longer { OnOk result (length self.new.bytes ≡ length self.old.bytes + length_of_held self.old.held) }
+        ensures appended { OnOk result (IfSome self.old.held (λ piece. Some (bytes_of self.new) ≡ Some ((bytes_of self.old) ++ piece.1))) }
+        ensures longer { OnOk result (length (bytes_of self.new) ≡ length (bytes_of self.old) + length_of_held self.old.held) }
         ensures held_no_more { OnOk result (self.new.held ≡ None) }
         ensures same_read { self.new.bytes_read ≡ self.old.bytes_read }
         ensures spare { self.old.spare ≤ self.new.spare + 1 }
         ensures cause { OnErr result (Rose self.old.tally.faults self.new.tally.faults) }
         ensures never_falls { self.old.tally.faults ≤ self.new.tally.faults }
+        ensures goes_on_telling { IsSome (Some (bytes_of self.old)) → IsSome (Some (bytes_of self.new)) }
+        ensures images { Follows (Appends (length (bytes_of self.old) + length_of_held self.old.held)) (MayLeave self.old) (MayHaveLeft self.new (moment_of self.old)) }
+        ensures time { Elapses (moment_of self.old) (moment_of self.new) (MayHaveLeft self.old) (MayHaveLeft self.new) }
 
         ensures fails { IsErr result ↔ FailsNext self.old.tally }
         ensures done { OnOk result (self.new ≡ after_append self.old) }
         ensures failed { OnErr result (self.new ≡ after_failure self.old) }
     {
-        self.calls.count()?;
-        let Some(HeldPiece { at: _, piece }) = self.held.take() else {
-            unreachable!("the caller holds a piece");
-        };
-        let Ok(()) = self.bytes.extend_from_slice(piece.as_slice()) else {
-            unreachable!("the room was taken as the piece came");
-        };
-        self.changes.push_reserved(Change::Append(piece));
-        self.calm = false;
+        self.append_held()?;
         Ok(())
     }
 
     fn put_byte(&mut self, at: u64, byte: u8) -> Result<(), Failed>
-        requires place { at < length self.old.bytes }
+        requires place { at < length (bytes_of self.old) }
         requires spare { 0 < self.old.spare }
-        ensures written { OnOk result (Some self.new.bytes ≡ Some (slice_set self.old.bytes at byte)) }
-        ensures same_size { length self.new.bytes ≡ length self.old.bytes }
+        ensures written { OnOk result (Some (bytes_of self.new) ≡ Some (slice_set (bytes_of self.old) at byte)) }
+        ensures same_size { length (bytes_of self.new) ≡ length (bytes_of self.old) }
         ensures same_held { self.new.held ≡ self.old.held }
         ensures same_read { self.new.bytes_read ≡ self.old.bytes_read }
         ensures spare { self.old.spare ≤ self.new.spare + 1 }
         ensures cause { OnErr result (Rose self.old.tally.faults self.new.tally.faults) }
         ensures never_falls { self.old.tally.faults ≤ self.new.tally.faults }
+        ensures goes_on_telling { IsSome (Some (bytes_of self.old)) → IsSome (Some (bytes_of self.new)) }
+        ensures images { Follows (Puts at) (MayLeave self.old) (MayHaveLeft self.new (moment_of self.old)) }
+        ensures time { Elapses (moment_of self.old) (moment_of self.new) (MayHaveLeft self.old) (MayHaveLeft self.new) }
 
         ensures fails { IsErr result ↔ FailsNext self.old.tally }
         ensures done { OnOk result (self.new ≡ after_put self.old at byte) }
         ensures failed { OnErr result (self.new ≡ after_failure self.old) }
     {
-        let place = at as usize;
-        self.calls.count()?;
-        self.bytes[place] = byte;
-        self.changes.push_reserved(Change::Put { at, byte });
-        self.calm = false;
+        self.put(at as usize, byte)?;
         Ok(())
     }
 
     fn cut(&mut self, len: u64) -> Result<(), Failed>
-        requires place { len ≤ length self.old.bytes }
+        requires place { len ≤ length (bytes_of self.old) }
         requires spare { 0 < self.old.spare }
-        ensures cut { OnOk result (Some self.new.bytes ≡ Some (take len self.old.bytes)) }
-        ensures size { OnOk result (length self.new.bytes ≡ len) }
+        ensures cut { OnOk result (Some (bytes_of self.new) ≡ Some (take len (bytes_of self.old))) }
+        ensures size { OnOk result (length (bytes_of self.new) ≡ len) }
         ensures same_held { self.new.held ≡ self.old.held }
         ensures same_read { self.new.bytes_read ≡ self.old.bytes_read }
         ensures spare { self.old.spare ≤ self.new.spare + 1 }
         ensures cause { OnErr result (Rose self.old.tally.faults self.new.tally.faults) }
         ensures never_falls { self.old.tally.faults ≤ self.new.tally.faults }
+        ensures goes_on_telling { IsSome (Some (bytes_of self.old)) → IsSome (Some (bytes_of self.new)) }
+        ensures images { Follows (Cuts len) (MayLeave self.old) (MayHaveLeft self.new (moment_of self.old)) }
+        ensures time { Elapses (moment_of self.old) (moment_of self.new) (MayHaveLeft self.old) (MayHaveLeft self.new) }
 
         ensures fails { IsErr result ↔ FailsNext self.old.tally }
         ensures done { OnOk result (self.new ≡ after_cut self.old len) }
         ensures failed { OnErr result (self.new ≡ after_failure self.old) }
     {
-        self.calls.count()?;
-        self.bytes.truncate(len as usize);
-        self.changes.push_reserved(Change::Cut { len });
-        self.calm = false;
+        self.cut_to(len as usize)?;
         Ok(())
     }
 
     fn sync(&mut self) -> Result<(), Failed>
         requires { 0 < self.old.spare }
-        ensures same_bytes { OnOk result (Some self.new.bytes ≡ Some self.old.bytes) }
-        ensures calm { OnOk result (IsTrue self.new.calm) }
-        ensures same_size { length self.new.bytes ≡ length self.old.bytes }
+        ensures same_bytes { OnOk result (Some (bytes_of self.new) ≡ Some (bytes_of self.old)) }
+        ensures calm { OnOk result (IsTrue (is_calm self.new)) }
+        ensures same_size { length (bytes_of self.new) ≡ length (bytes_of self.old) }
         ensures same_held { self.new.held ≡ self.old.held }
         ensures same_read { self.new.bytes_read ≡ self.old.bytes_read }
         ensures spare { self.old.spare ≤ self.new.spare + 1 }
         ensures cause { OnErr result (Rose self.old.tally.faults self.new.tally.faults) }
         ensures never_falls { self.old.tally.faults ≤ self.new.tally.faults }
+        ensures goes_on_telling { IsSome (Some (bytes_of self.old)) → IsSome (Some (bytes_of self.new)) }
+        ensures durable { OnOk result (Only (bytes_of self.old) (MayLeave self.new)) }
+        ensures images { IsWithin (MayLeave self.old) (MayHaveLeft self.new (moment_of self.old)) }
+        ensures time { Elapses (moment_of self.old) (moment_of self.new) (MayHaveLeft self.old) (MayHaveLeft self.new) }
 
         ensures fails { IsErr result ↔ FailsNext self.old.tally }
         ensures done { OnOk result (self.new ≡ after_sync self.old) }
         ensures failed { OnErr result (self.new ≡ after_failure self.old) }
     {
-        self.calls.count()?;
-        self.changes.push_reserved(Change::Sync);
-        self.calm = true;
+        self.keep()?;
         Ok(())
     }
 
     fn spot(&self, alloc: Global, at: u64, count: u32) -> Result<MemSpot, AllocError> {
         let range = match range_of(&self.held, at, count) {
             Some(range) => range,
-            None => &self.bytes[at as usize..at as usize + count as usize],
+            None => &self.content.bytes[at as usize..at as usize + count as usize],
         };
         MemSpot::new(alloc, range)
     }
