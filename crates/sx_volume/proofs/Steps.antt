@@ -19,7 +19,7 @@ take_front zero c = refl
 take_front (suc n) [] = refl
 take_front (suc n) (x ∷ c) = ap (λ (l : List ℕ). x ∷ l) (take_front n c)
 
-below : (a b : ℕ) → a ≡ b → b < 256 → a < 256
+pub below : (a b : ℕ) → a ≡ b → b < 256 → a < 256
 below a b e lt = omega arith
 
 no_place : (i : ℕ) → Contains {X = ℕ} [] i → ⊥
@@ -79,11 +79,11 @@ module _ (p : Pending) (sound : IsSound p) where
           )
         ]
 
-    each : (i : ℕ) → i < length unput → MayStand p unput i
-    each i lt =
+    each_put : (i : ℕ) → i < length unput → MayStand p unput i
+    each_put i lt =
         let inside : i < length c = omega (arith, lt, length-set c at was) in
         elim (cases_eq i at) [
-          | inl is ↦ inl (omega (arith, is, place), get_or-set_at c i at was 0 is (omega (arith, is, inside)) ∙ ap (λ (n : ℕ). get_or p.bytes n 0) (sym is))
+          | inl is ↦ inl (omega (arith, is, place), get_or-set_at c at i was 0 is (omega (arith, is, inside)) ∙ ap (λ (n : ℕ). get_or p.bytes n 0) (sym is))
           | inr ne ↦ elsewhere i ne inside
         ]
 
@@ -96,7 +96,7 @@ module _ (p : Pending) (sound : IsSound p) where
     pub put_image : (d : List ℕ) × IsImage p d × Puts at d c
     put_image = (
       unput,
-      record { no_shorter = omega (arith, length-set c at was, image.no_shorter); no_longer = omega (arith, length-set c at was, image.no_longer); bytes = each },
+      record { no_shorter = omega (arith, length-set c at was, image.no_shorter); no_longer = omega (arith, length-set c at was, image.no_longer); bytes = each_put },
       elim (cases_lt at (length c)) [
         | inl inside ↦ inr (get_or c at 0, bound inside, sym (set-set c at was (get_or c at 0) ∙ set-get_or c at 0))
         | inr behind ↦ inl (sym (set_past c at was behind))
@@ -126,11 +126,11 @@ module _ (p : Pending) (sound : IsSound p) where
       kept : length (take len c) ≡ len
       kept = omega (arith, length-take len c, image.no_shorter, low)
 
-      long : length base ≡ p.greatest
-      long = omega (arith, length-append p.bytes (replicate padding 0), length-replicate padding 0, sound.greatest)
+      long_base : length base ≡ p.greatest
+      long_base = omega (arith, length-append p.bytes (replicate padding 0), length-replicate {A = ℕ} padding 0, sound.greatest)
 
-      whole : length uncut ≡ p.greatest
-      whole = omega (arith, length-append (take len c) (drop len base), kept, length-drop len base, long, place, sound.greatest)
+      whole_uncut : length uncut ≡ p.greatest
+      whole_uncut = omega (arith, length-append (take len c) (drop len base), kept, length-drop len base, long_base, place, sound.greatest)
 
       before : (i : ℕ) → i < len → MayStand p uncut i
       before i lt =
@@ -152,14 +152,14 @@ module _ (p : Pending) (sound : IsSound p) where
                 inr (inl (omega (arith, padded, sound.least)), below _ _ (same ∙ zeros) (omega arith))
           ]
 
-      each : (i : ℕ) → i < length uncut → MayStand p uncut i
-      each i lt = elim (cases_lt i len) [ inl front ↦ before i front | inr back ↦ behind i back (omega (arith, lt, whole)) ]
+      each_cut : (i : ℕ) → i < length uncut → MayStand p uncut i
+      each_cut i lt = elim (cases_lt i len) [ inl front ↦ before i front | inr back ↦ behind i back (omega (arith, lt, whole_uncut)) ]
 
       low_image : (d : List ℕ) × IsImage p d × Cuts len d c
       low_image = (
         uncut,
-        record { no_shorter = omega (arith, whole, sound.least, sound.greatest); no_longer = omega (arith, whole); bytes = each },
-        record { front = sym (take_at (take len c) (drop len base) len kept); no_longer = omega (arith, whole, image.no_longer) },
+        record { no_shorter = omega (arith, whole_uncut, sound.least, sound.greatest); no_longer = omega (arith, whole_uncut); bytes = each_cut },
+        record { front = sym (take_at (take len c) (drop len base) len kept); no_longer = omega (arith, whole_uncut, image.no_longer) },
       )
 
     pub cut_image : (d : List ℕ) × IsImage p d × Cuts len d c

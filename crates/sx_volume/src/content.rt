@@ -64,6 +64,7 @@ impl Content {
         ensures put { pending_in self.new ≡ after_change (pending_in self.old) (Put at byte) }
         ensures bytes { vec_capacity self.new.bytes ≡ vec_capacity self.old.bytes }
         ensures places { vec_capacity self.new.places ≡ vec_capacity self.old.places }
+        ensures one_more { vec_len self.new.places ≡ vec_len self.old.places + 1 }
     {
         self.bytes[at] = byte;
         self.places.push_reserved(at);

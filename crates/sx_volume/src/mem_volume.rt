@@ -330,7 +330,8 @@ impl Volume for MemVolume {
         ensures done { OnOk result (self.new ≡ after_put self.old at byte) }
         ensures failed { OnErr result (self.new ≡ after_failure self.old) }
     {
-        self.put(at as usize, byte)?;
+        let place = at as usize;
+        self.put(place, byte)?;
         Ok(())
     }
 
@@ -391,36 +392,39 @@ impl Volume for MemVolume {
 #[cfg(test)]
 mod tests {
     use super::*;
-    use crate::{ReadEnd, Spot};
+    use crate::ReadEnd;
     use std::test::Fail;
 
-    fn shared(alloc: Global, bytes: &[u8]) -> Result<Arc<Vec<u8>>, AllocError>
-        ensures { IfOk result (λ piece. (arc_value piece).items ≡ bytes.now) }
-    {
-        Ok(Arc::new(alloc, bytes.to_vec(alloc)?)?)
+    // A volume in which a piece is synced, and then a byte is put, a piece cut off and another one appended.
+    fn changed(alloc: Global) -> Result<MemVolume, Fail> {
+        let mut volume = MemVolume::new(alloc, b"log".to_vec(alloc)?, [7].to_vec(alloc)?)?;
+        volume.ready(alloc, 5)?;
+        volume.hold(alloc, 3, Arc::new(alloc, b"ger".to_vec(alloc)?)?)?;
+        volume.append()?;
+        volume.sync()?;
+        volume.put_byte(1, b'a')?;
+        volume.cut(4)?;
+        volume.hold(alloc, 4, Arc::new(alloc, b"!".to_vec(alloc)?)?)?;
+        volume.append()?;
+        Ok(volume)
     }
 
     #[test]
-    fn each_call_is_seen_by_reads(rt: HostRuntime) -> Result<(), Fail> {
+    fn reads_and_images_show_the_calls(rt: HostRuntime) -> Result<(), Fail> {
         let alloc = rt.alloc();
-        let mut volume = MemVolume::new(alloc, b"log".to_vec(alloc)?, [6].to_vec(alloc)?)?;
-        volume.ready(alloc, 4)?;
-        volume.hold(alloc, 3, shared(alloc, b"ger")?)?;
-        volume.append()?;
-        volume.sync()?;
-        let spot = volume.spot(alloc, 1, 4)?;
-        volume.put_byte(1, b'a')?;
-        volume.cut(5)?;
-        let mut room = [0; 4];
+        let mut volume = changed(alloc)?;
+        assert_eq!(rt; volume.as_slice(), b"lagg!".as_slice());
+        for (tail, gate, image) in [
+            (b"".as_slice(), 0, b"l\0gg".as_slice()),
+            (b"?", b'o', b"logg?"),
+            (b"????", b'a', b"lagg??"),
+        ] {
+            assert_eq!(rt; volume.image(alloc, tail, gate)?.as_slice(), image);
+        }
+        let mut room = [0; 3];
         volume.read_at(1, &mut room)?;
-        assert_eq!(rt; room.as_slice(), b"agge".as_slice());
+        assert_eq!(rt; room.as_slice(), b"agg".as_slice());
         assert_eq!(rt; volume.read_at(1, &mut room), Err(Failed));
-        assert_eq!(rt; volume.as_slice(), b"lagge".as_slice());
-
-        let mut end = MemEnd::new([2].to_vec(alloc)?);
-        end.read(&spot, &mut room)?;
-        assert_eq!(rt; room.as_slice(), b"ogge".as_slice());
-        assert_eq!(rt; end.read(&spot, &mut room), Err(Failed));
         Ok(())
     }
 }
