@@ -1,7 +1,17 @@
 -- How a run of calls goes on, for whoever knows the tests and laws of a volume alone.
 use Rattle.std.proofs.Common.{◌≡◌, ◌⊎◌, inl, inr, ⊎_elim, ℕ, ◌≤◌, List, length, take, refl, ap, subst, arith}
-use Rattle.std.proofs.lemmas.List.{length-take}
-use Rattle.sx_volume.specs.Images.{Only, Follows, Appends, Cuts, Elapses}
+use Rattle.std.proofs.lemmas.List.{length-take, take_all}
+use Rattle.sx_volume.specs.Images.{Only, Follows, Appends, Puts, Cuts, Elapses}
+
+-- each step may be none at all
+pub appends_same : (end : ℕ) (c : List ℕ) → Appends end c c
+appends_same end c = record { front = take_all (length c) c (omega arith); no_longer = omega arith }
+
+pub puts_same : (at : ℕ) (c : List ℕ) → Puts at c c
+puts_same at c = inl refl
+
+pub cuts_same : (len : ℕ) (c : List ℕ) → Cuts len c c
+cuts_same len c = record { front = refl; no_longer = omega arith }
 
 -- where there was one image, each image after a step comes from it
 pub follows_only : (step : List ℕ → List ℕ → Type 0) (old new : List ℕ → Type 0) (all : List ℕ) → Only all old → Follows step old new → (c : List ℕ) → new c → step all c

@@ -10,6 +10,7 @@ use Rattle.sx_volume.specs.Medium.{Medium, pending, bytes_of, is_calm, moment_of
 use Rattle.sx_volume.specs.Replay.{IsSound, pending_after, pending_is_sound, only_now}
 use Rattle.sx_volume.specs.declared.mem_volume.Call.{Call}
 use Rattle.sx_volume.proofs.Grown.{after_changes-push, since_change}
+use Rattle.sx_volume.proofs.Images.{appends_same, puts_same, cuts_same}
 use Rattle.sx_volume.proofs.Steps.{appended_image, put_image, cut_image, settled_image, synced_image}
 
 -- the record of the calls and what is kept grow together
@@ -26,26 +27,19 @@ told_piece : (held : Option (ℕ × List ℕ)) (old new : List ℕ) → new ≡ 
 told_piece None old new is = tt
 told_piece (Some piece) old new is = ap Some is
 
--- no step was made
-stays_appended : (end : ℕ) (c : List ℕ) → Appends end c c
-stays_appended end c = record { front = take_all (length c) c (omega arith); no_longer = omega arith }
-
-stays_cut : (len : ℕ) (c : List ℕ) → Cuts len c c
-stays_cut len c = record { front = refl; no_longer = omega arith }
-
 module _ (old new : Medium) where
   module _ (is : new ≡ after_failure old) where
     pub failed_images : IsWithin (MayLeave old) (MayHaveLeft new (moment_of old))
     failed_images c left = only_now old.first old.changes c (subst (λ (m : Medium). MayHaveLeft m (moment_of old) c) is left)
 
     pub failed_append : (end : ℕ) → Follows (Appends end) (MayLeave old) (MayHaveLeft new (moment_of old))
-    failed_append end c left = (c, failed_images c left, stays_appended end c)
+    failed_append end c left = (c, failed_images c left, appends_same end c)
 
     pub failed_put : (at : ℕ) → Follows (Puts at) (MayLeave old) (MayHaveLeft new (moment_of old))
-    failed_put at c left = (c, failed_images c left, inl refl)
+    failed_put at c left = (c, failed_images c left, puts_same at c)
 
     pub failed_cut : (len : ℕ) → Follows (Cuts len) (MayLeave old) (MayHaveLeft new (moment_of old))
-    failed_cut len c left = (c, failed_images c left, stays_cut len c)
+    failed_cut len c left = (c, failed_images c left, cuts_same len c)
 
   sound : IsSound (pending old)
   sound = pending_is_sound old.first old.changes
@@ -70,7 +64,7 @@ module _ (old new : Medium) where
     images_append bytes c left =
         let end = length (bytes_of old) + length_of_held old.held in
         subst (λ (n : ℕ). (d : List ℕ) × MayLeave old d × Appends (length (bytes_of old) + n) d c) (length-held_piece old.held)
-        (⊎_elim (λ before. (c, before, stays_appended (length (bytes_of old) + length piece) c)) (λ after. appended_image (pending old) sound piece bytes c after)
+        (⊎_elim (λ before. (c, before, appends_same (length (bytes_of old) + length piece) c)) (λ after. appended_image (pending old) sound piece bytes c after)
         (since_change old.first old.changes (Appended piece) c (subst (λ (m : Medium). MayHaveLeft m (moment_of old) c) is left)))
 
   module _ (at byte : ℕ) (is : new ≡ after_put old at byte) where
@@ -85,7 +79,7 @@ module _ (old new : Medium) where
 
     pub images_put : at < length (bytes_of old) → byte < 256 → Follows (Puts at) (MayLeave old) (MayHaveLeft new (moment_of old))
     images_put place is_byte c left =
-        ⊎_elim (λ before. (c, before, inl refl)) (λ after. put_image (pending old) sound at byte place is_byte c after)
+        ⊎_elim (λ before. (c, before, puts_same at c)) (λ after. put_image (pending old) sound at byte place is_byte c after)
         (since_change old.first old.changes (Put at byte) c (subst (λ (m : Medium). MayHaveLeft m (moment_of old) c) is left))
 
   module _ (len : ℕ) (is : new ≡ after_cut old len) where
@@ -100,7 +94,7 @@ module _ (old new : Medium) where
 
     pub images_cut : len ≤ length (bytes_of old) → Follows (Cuts len) (MayLeave old) (MayHaveLeft new (moment_of old))
     images_cut place c left =
-        ⊎_elim (λ before. (c, before, stays_cut len c)) (λ after. cut_image (pending old) sound len place c after)
+        ⊎_elim (λ before. (c, before, cuts_same len c)) (λ after. cut_image (pending old) sound len place c after)
         (since_change old.first old.changes (Cut len) c (subst (λ (m : Medium). MayHaveLeft m (moment_of old) c) is left))
 
   module _ (is : new ≡ after_sync old) where
