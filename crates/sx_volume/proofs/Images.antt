@@ -1,5 +1,5 @@
 -- How a run of calls goes on, for whoever knows the tests and laws of a volume alone.
-use Rattle.std.proofs.Common.{◌≡◌, ◌⊎◌, inl, inr, ⊎_elim, ℕ, ◌≤◌, List, length, take, refl, ap, subst, arith}
+use Rattle.std.proofs.Common.{inl, inr, ⊎_elim, ℕ, ◌≤◌, List, length, refl, ap, subst, arith}
 use Rattle.std.proofs.lemmas.List.{length-take, take_all}
 use Rattle.sx_volume.specs.Images.{Only, Follows, Appends, Puts, Cuts, Elapses}
 

@@ -1,11 +1,11 @@
 -- What each change adds to the images.
-use Rattle.std.proofs.Common.{◌≡◌, ◌≢◌, ◌⊎◌, inl, inr, ⊎_elim, ℕ, zero, suc, ◌+◌, ◌-◌, ◌≤◌, ◌<◌, min, max, List, [], ◌∷◌, ◌++◌, length, take, drop, get_or, refl, sym, ◌∙◌, ap, subst, arith, length-append}
+use Rattle.std.proofs.Common.{◌≡◌, ◌≢◌, ◌⊎◌, inl, inr, ⊎_elim, ℕ, zero, suc, ◌+◌, ◌-◌, ◌≤◌, ◌<◌, min, List, [], ◌∷◌, ◌++◌, length, take, drop, get_or, refl, sym, ◌∙◌, ap, subst, arith, length-append}
 use Rattle.std.specs.Prelude.{set, replicate, Contains}
 use Rattle.std.proofs.lemmas.Bool.{cases_lt, cases_eq}
-use Rattle.std.proofs.lemmas.List.{ext_get_or, take_all, take_at, length-take, length-drop, length-set, length-replicate, get_or-take, get_or-drop, get_or-set_same, get_or-set_other, get_or-append_right, get_or_append_left, get_or-replicate, set-set, set-get_or, set_past}
+use Rattle.std.proofs.lemmas.List.{ext_get_or, take_at, length-take, length-drop, length-set, length-replicate, get_or-take, get_or-drop, get_or-set_same, get_or-set_other, get_or-append_right, get_or_append_left, get_or-replicate, set-set, set-get_or, set_past}
 use Rattle.std.proofs.lemmas.Grind.{get_or-set_at}
-use Rattle.std.proofs.lemmas.List.Elements.{Contains-append_left, Contains-append_cases}
-use Rattle.sx_volume.specs.Change.{Change, Appended, Put, Cut, Synced, Pending, settled, after_change, IsFree, IsImage}
+use Rattle.std.proofs.lemmas.List.Elements.{Contains-append_cases}
+use Rattle.sx_volume.specs.Change.{Appended, Put, Cut, Synced, Pending, settled, after_change, IsFree, IsImage}
 use Rattle.sx_volume.specs.Change.{AreBytes}
 use Rattle.sx_volume.specs.Images.{Appends, Puts, Cuts}
 use Rattle.sx_volume.specs.Replay.{IsSound, is_image-bytes}

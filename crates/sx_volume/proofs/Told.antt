@@ -1,12 +1,12 @@
 -- What the calls of a volume in memory do to its bytes and its images.
-use Rattle.std.proofs.Common.{◌≡◌, ◌⊎◌, inl, inr, ⊎_elim, ℕ, ◌+◌, ◌≤◌, ◌<◌, IsTrue, List, [], ◌∷◌, ◌++◌, length, take, drop, refl, sym, ◌∙◌, ap, subst, arith, length-append, IfSome}
+use Rattle.std.proofs.Common.{◌≡◌, ⊎_elim, ℕ, ◌+◌, ◌≤◌, ◌<◌, IsTrue, List, [], ◌∷◌, ◌++◌, length, take, refl, sym, ◌∙◌, ap, subst, arith, length-append, IfSome}
 use Rattle.std.specs.Prelude.{Option, None, Some, map, slice_set}
-use Rattle.std.proofs.lemmas.List.{length-set, length-take, map-append, take_all}
+use Rattle.std.proofs.lemmas.List.{length-set, length-take, map-append}
 use Rattle.sx_volume.specs.Change.{AreBytes, Change, Appended, Put, Cut, Synced, Pending, settled, after_change, IsImage}
 use Rattle.sx_volume.specs.Held.{held_piece, length_of_held}
 use Rattle.sx_volume.specs.Images.{Only, IsWithin, Follows, Appends, Puts, Cuts}
 use Rattle.sx_volume.specs.Kept.{change_of}
-use Rattle.sx_volume.specs.Medium.{Medium, pending, bytes_of, is_calm, moment_of, MayLeave, MayHaveLeft, changed, after_append, after_put, after_cut, after_sync, after_failure}
+use Rattle.sx_volume.specs.Medium.{Medium, pending, bytes_of, is_calm, moment_of, MayLeave, MayHaveLeft, after_append, after_put, after_cut, after_sync, after_failure}
 use Rattle.sx_volume.specs.Replay.{IsSound, pending_after, pending_is_sound, only_now}
 use Rattle.sx_volume.specs.declared.mem_volume.Call.{Call}
 use Rattle.sx_volume.proofs.Grown.{after_changes-push, since_change}

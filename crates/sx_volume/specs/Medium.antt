@@ -1,5 +1,5 @@
 -- What a volume in memory is for a caller, and what its calls make of it.
-use Rattle.std.specs.Prelude.{◌≡◌, ℕ, ◌+◌, ◌-◌, ◌≤◌, Bool, List, [], ◌∷◌, ◌++◌, length, Option, None, Some}
+use Rattle.std.specs.Prelude.{ℕ, ◌-◌, Bool, List, [], ◌∷◌, ◌++◌, length, Option, None}
 use Rattle.sx_volume.specs.Counts.{plus}
 use Rattle.sx_volume.specs.Held.{held_piece}
 use Rattle.sx_volume.specs.Tally.{Tally, one_more, one_more_failed}

@@ -1,5 +1,5 @@
 -- A volume in memory through its changes: what is pending after each, and which lists a crash may leave.
-use Rattle.std.specs.Prelude.{◌≡◌, ◌⊎◌, ℕ, ◌+◌, ◌≤◌, min, max, List, [], ◌∷◌, ◌++◌, length, take, slice_set, Option, Some, refl}
+use Rattle.std.specs.Prelude.{◌≡◌, ℕ, ◌≤◌, List, [], ◌∷◌, length, take, Some, refl}
 use Rattle.std.proofs.Common.{inl, arith, sym, subst, length-append, length-set}
 use Rattle.std.proofs.lemmas.List.{length-take, take_all}
 use Rattle.sx_volume.specs.Change.{Change, Appended, Put, Cut, Synced, Pending, settled, after_change, after_changes, IsImage}

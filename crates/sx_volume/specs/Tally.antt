@@ -1,5 +1,5 @@
 -- Calls that are counted, and of which the listed ones fail.
-use Rattle.std.specs.Prelude.{ℕ, ◌+◌, ◌-◌, ◌^◌, List, Contains, min}
+use Rattle.std.specs.Prelude.{ℕ, ◌+◌, List, Contains}
 use Rattle.sx_volume.specs.Counts.{plus}
 
 pub record Tally : Type 0 where

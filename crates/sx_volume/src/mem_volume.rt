@@ -64,7 +64,7 @@ impl MemVolume {
     /// `put_byte`, `cut` and `sync`, counted together from 1, those with the numbers in `failing` fail, and no other.
     /// Errors: `AllocError` where memory runs out.
     pub fn new(alloc: Global, bytes: Vec<u8>, failing: Vec<u64>) -> Result<MemVolume, AllocError>
-        ensures { IfOk result (λ volume. volume ≡ record {
+        ensures value { IfOk result (λ volume. volume ≡ record {
           first = bytes.items;
           changes = [];
           held = None;
@@ -72,6 +72,8 @@ impl MemVolume {
           tally = record { calls = 0; failing = failing.items; faults = 0 };
           bytes_read = 0;
         }) }
+        ensures told { IfOk result (λ volume. bytes_of volume ≡ bytes.items) }
+        ensures kept { IfOk result (λ volume. Only bytes.items (MayLeave volume)) }
     {
         Ok(MemVolume {
             first: bytes.to_vec(alloc)?,

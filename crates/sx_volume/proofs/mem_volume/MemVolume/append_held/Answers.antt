@@ -1,4 +1,4 @@
-use Rattle.std.proofs.Common.{◌≡◌, List, ℕ, ◌∙◌, ap, arith, rules}
+use Rattle.std.proofs.Common.{◌≡◌, List, ℕ, ◌∙◌, ap, rules}
 use Rattle.std.specs.Arc.{arc_value}
 use Rattle.sx_volume.specs.Change.{Appended, after_change}
 use Rattle.sx_volume.specs.Content.{pending_in}

@@ -1,4 +1,4 @@
-use Rattle.std.proofs.Common.{arith, rules}
+use Rattle.std.proofs.Common.{rules}
 use Rattle.sx_volume.proofs.Told.{replayed_push}
 use Rattle.sx_volume.proofs.mem_volume.MemVolume.cut_to.Goals as goal
 
