@@ -1,6 +1,6 @@
 -- A volume in memory through its changes: what is pending after each, and which lists a crash may leave.
 use Rattle.std.specs.Prelude.{◌≡◌, ℕ, ◌≤◌, List, [], ◌∷◌, length, take, Some, refl}
-use Rattle.std.proofs.Common.{inl, arith, sym, subst, length-append, length-set}
+use Rattle.std.proofs.Common.{inl, arith, sym, ap, subst, length-append, length-set}
 use Rattle.std.proofs.lemmas.List.{length-take, take_all}
 use Rattle.sx_volume.specs.Change.{Change, Appended, Put, Cut, Synced, Pending, settled, after_change, after_changes, IsImage}
 
@@ -49,6 +49,9 @@ pending_is_sound first changes = sound_changes (settled first) changes (record {
 -- a volume as it is read is one of its images
 pub is_image-bytes : (p : Pending) → IsSound p → IsImage p p.bytes
 is_image-bytes p sound = record { no_shorter = sound.least; no_longer = sound.greatest; bytes = λ i lt. inl (lt, refl) }
+
+pub told_length : (bytes all : List ℕ) → Some bytes ≡ Some all → length all ≡ length bytes
+told_length bytes all told = let is : all ≡ bytes = cc in ap length is
 
 pub as_read : (first : List ℕ) (changes : List Change) (all : List ℕ) → Some (pending_after first changes).bytes ≡ Some all → IsImage (pending_after first changes) all
 as_read first changes all told =

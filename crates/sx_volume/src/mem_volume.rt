@@ -7,7 +7,7 @@ ghost use Rattle.sx_volume.specs.Held.{IsHeldFor, LiesInHeld, held_piece, held_r
 ghost use Rattle.sx_volume.specs.Images.{Only, IsWithin, Follows, Appends, Puts, Cuts, Elapses};
 ghost use Rattle.sx_volume.specs.Kept.{place_and_bytes};
 ghost use Rattle.sx_volume.specs.Medium.{Medium, pending, bytes_of, is_calm, moment_of, MayLeave, MayHaveLeft, after_failure, after_read, after_failed_read, after_append, after_put, after_cut, after_sync};
-ghost use Rattle.sx_volume.specs.Replay.{counts_now, only_now, as_read};
+ghost use Rattle.sx_volume.specs.Replay.{counts_now, only_now, told_length, as_read};
 ghost use Rattle.sx_volume.specs.Tally.{FailsNext};
 
 use crate::calls::Calls;
@@ -104,6 +104,7 @@ impl MemVolume {
         self.content.image(alloc, tail, gate)
     }
 
+    // What `append` does.
     fn append_held(&mut self) -> Result<(), Failed>
         requires held { IsHeldFor self.old.held (length (bytes_of self.old)) }
         requires spare { 0 < self.old.spare }
@@ -123,6 +124,7 @@ impl MemVolume {
         Ok(())
     }
 
+    // What `put_byte` does.
     fn put(&mut self, at: usize, byte: u8) -> Result<(), Failed>
         requires place { at < length (bytes_of self.old) }
         requires spare { 0 < self.old.spare }
@@ -138,6 +140,7 @@ impl MemVolume {
         Ok(())
     }
 
+    // What `cut` does.
     fn cut_to(&mut self, len: usize) -> Result<(), Failed>
         requires place { len ≤ length (bytes_of self.old) }
         requires spare { 0 < self.old.spare }
@@ -153,6 +156,7 @@ impl MemVolume {
         Ok(())
     }
 
+    // What `sync` does.
     fn keep(&mut self) -> Result<(), Failed>
         requires { 0 < self.old.spare }
         ensures fails { IsErr result ↔ FailsNext self.old.tally }
@@ -212,6 +216,8 @@ impl Volume for MemVolume {
     ghost counts_now = { λ volume. counts_now volume.first volume.changes };
 
     ghost only_now = { λ volume. only_now volume.first volume.changes };
+
+    ghost told_size = { λ volume all. told_length (bytes_of volume) all };
 
     ghost reads = { λ volume. as_read volume.first volume.changes };
 

@@ -175,6 +175,9 @@ pub trait Volume {
     /// Since this moment there is no other.
     ghost only_now: { (volume : Self) (c : List ℕ) → was_image volume (moment volume) c → is_image volume c };
 
+    /// Where the bytes are told, they have the volume's length.
+    ghost told_size: { (volume : Self) (all : List ℕ) → bytes volume ≡ Some all → length all ≡ size volume };
+
     /// The volume as it reads is one of its images.
     ghost reads: { (volume : Self) (all : List ℕ) → bytes volume ≡ Some all → is_image volume all };
 }
