@@ -2,10 +2,14 @@
 //!
 //! A volume tells its bytes where it can. It fails only with a risen count of faults, and its calls that
 //! write need no memory: what they need is taken before, by `ready` and `hold`.
+//!
+//! What a crash may leave is told by two tests of a list of bytes, of now and of all moments since one, and each call
+//! says how they go on. `MemVolume` keeps its bytes in memory with a record of its calls, from which both tests follow,
+//! and fails where it is told to.
 #![tactic(auto)]
 
-mod calls;
 mod content;
+mod counter;
 mod end;
 mod mem_end;
 mod mem_spot;

@@ -3,7 +3,7 @@ ghost use Rattle.sx_outside.specs.Faults.{Rose};
 ghost use Rattle.sx_volume.specs.Counts.{plus};
 ghost use Rattle.sx_volume.specs.Tally.{FailsNext, one_more, one_more_failed};
 
-use crate::calls::Calls;
+use crate::counter::Counter;
 use crate::{MemSpot, ReadEnd};
 use std::marker::Model;
 use sx_outside::Failed;
@@ -11,7 +11,7 @@ use sx_outside::Failed;
 /// Reads the spots of a volume in memory, and fails where it is told to.
 #[derive(Drop)]
 pub struct MemEnd {
-    calls: Calls,
+    counter: Counter,
 }
 
 impl Model for MemEnd {
@@ -19,7 +19,7 @@ impl Model for MemEnd {
 
     ghost Value = { Tally };
 
-    ghost view = { λ end. end.calls };
+    ghost view = { λ end. end.counter };
 }
 
 impl MemEnd {
@@ -28,7 +28,7 @@ impl MemEnd {
         ensures { result ≡ record { calls = 0; failing = failing.items; faults = 0 } }
     {
         MemEnd {
-            calls: Calls::new(failing),
+            counter: Counter::new(failing),
         }
     }
 }
@@ -54,7 +54,7 @@ impl ReadEnd for MemEnd {
         ensures ok { OnOk result (self.new ≡ one_more self.old) }
         ensures err { OnErr result (self.new ≡ one_more_failed self.old) }
     {
-        self.calls.count()?;
+        self.counter.count()?;
         room.copy_from_slice(spot.as_slice());
         Ok(())
     }

@@ -10,8 +10,8 @@ ghost use Rattle.sx_volume.specs.Medium.{Medium, pending, bytes_of, is_calm, mom
 ghost use Rattle.sx_volume.specs.Replay.{counts_now, only_now, told_length, as_read};
 ghost use Rattle.sx_volume.specs.Tally.{FailsNext};
 
-use crate::calls::Calls;
 use crate::content::Content;
+use crate::counter::Counter;
 use crate::{MemEnd, MemSpot, Volume};
 use std::alloc::{AllocError, Global};
 use std::marker::Model;
@@ -43,7 +43,7 @@ pub struct MemVolume {
     content: Content,
     held: Option<HeldPiece>,
     spare: usize,
-    tally: Calls,
+    tally: Counter,
     bytes_read: u64,
 }
 
@@ -81,7 +81,7 @@ impl MemVolume {
             content: Content::new(alloc, bytes),
             held: None,
             spare: 0,
-            tally: Calls::new(failing),
+            tally: Counter::new(failing),
             bytes_read: 0,
         })
     }

@@ -6,30 +6,30 @@ use sx_outside::Failed;
 
 // Counts calls, and fails the listed ones.
 #[derive(Drop)]
-pub struct Calls {
+pub struct Counter {
     made: u64,
     failing: Vec<u64>,
     faults: u64,
 }
 
-impl Model for Calls {
+impl Model for Counter {
     ghost use Rattle.sx_volume.specs.Tally.{Tally};
 
     ghost Value = { Tally };
 
-    ghost view = { λ calls. record {
-      calls = calls.made;
-      failing = calls.failing.items;
-      faults = calls.faults;
+    ghost view = { λ counter. record {
+      calls = counter.made;
+      failing = counter.failing.items;
+      faults = counter.faults;
     } };
 }
 
-impl Calls {
+impl Counter {
     // No call came yet.
-    pub fn new(failing: Vec<u64>) -> Calls
+    pub fn new(failing: Vec<u64>) -> Counter
         ensures { result ≡ record { calls = 0; failing = failing.items; faults = 0 } }
     {
-        Calls {
+        Counter {
             made: 0,
             failing,
             faults: 0,
