@@ -10,3 +10,8 @@ Takes (Some bytes) piece left = (rest : List ℕ) × (bytes ≡ piece ++ rest) �
 abbrev pub Gains : Option (List ℕ) → List ℕ → Option (List ℕ) → Type 0
 Gains None piece written = Unit {0}
 Gains (Some bytes) piece written = written ≡ Some (bytes ++ piece)
+
+-- bytes that were told are told again, and are the same
+abbrev pub Stays : Option (List ℕ) → Option (List ℕ) → Type 0
+Stays None now = Unit {0}
+Stays (Some bytes) now = now ≡ Some bytes

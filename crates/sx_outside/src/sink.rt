@@ -1,6 +1,6 @@
-ghost use Rattle.std.specs.Prelude.{◌≡◌, ◌<◌, ◌≤◌, List, Option, ℕ, length, take, IfOk, OnErr};
+ghost use Rattle.std.specs.Prelude.{◌<◌, ◌≤◌, List, Option, ℕ, length, take, IfOk, OnErr};
 ghost use Rattle.sx_outside.specs.Faults.{Rose};
-ghost use Rattle.sx_outside.specs.Transfer.{Gains};
+ghost use Rattle.sx_outside.specs.Transfer.{Gains, Stays};
 
 use crate::Failed;
 
@@ -19,7 +19,7 @@ pub trait Sink {
         ensures some { IfOk result (λ n. 0 < n) }
         ensures within { IfOk result (λ n. n ≤ length piece.now) }
         ensures put { IfOk result (λ n. Gains (written self.old) (take n piece.now) (written self.new)) }
-        ensures nothing_written { OnErr result (written self.new ≡ written self.old) }
+        ensures nothing_written { OnErr result (Stays (written self.old) (written self.new)) }
         ensures cause { OnErr result (Rose (faults self.old) (faults self.new)) }
         ensures never_falls { faults self.old ≤ faults self.new };
 }

@@ -1,6 +1,6 @@
-ghost use Rattle.std.specs.Prelude.{◌≡◌, ◌<◌, ◌≤◌, List, Option, ℕ, length, take, IfOk, OnErr};
+ghost use Rattle.std.specs.Prelude.{◌<◌, ◌≤◌, List, Option, ℕ, length, take, IfOk, OnErr};
 ghost use Rattle.sx_outside.specs.Faults.{Rose};
-ghost use Rattle.sx_outside.specs.Transfer.{Takes};
+ghost use Rattle.sx_outside.specs.Transfer.{Takes, Stays};
 
 use crate::Failed;
 
@@ -18,7 +18,7 @@ pub trait Source {
         requires { 0 < length room.old }
         ensures within { IfOk result (λ n. n ≤ length room.old) }
         ensures taken { IfOk result (λ n. Takes (left self.old) (take n room.new) (left self.new)) }
-        ensures nothing_taken { OnErr result (left self.new ≡ left self.old) }
+        ensures nothing_taken { OnErr result (Stays (left self.old) (left self.new)) }
         ensures cause { OnErr result (Rose (faults self.old) (faults self.new)) }
         ensures never_falls { faults self.old ≤ faults self.new };
 }

@@ -3,7 +3,7 @@ use Rattle.std.proofs.Common.{◌≡◌, ⊎_elim, ℕ, ◌+◌, ◌≤◌, ◌<
 use Rattle.std.specs.Prelude.{Option, None, Some, map, slice_set}
 use Rattle.std.proofs.lemmas.List.{length-set, length-take, map-append}
 use Rattle.sx_volume.specs.Change.{AreBytes, Change, Appended, Put, Cut, Synced, Pending, settled, after_change, IsImage}
-use Rattle.sx_volume.specs.Held.{held_piece, length_of_held}
+use Rattle.sx_volume.specs.Held.{held_piece}
 use Rattle.sx_volume.specs.Images.{Only, IsWithin, Follows, Appends, Puts, Cuts}
 use Rattle.sx_volume.specs.Kept.{change_of}
 use Rattle.sx_volume.specs.Medium.{Medium, pending, bytes_of, is_calm, moment_of, MayLeave, MayHaveLeft, after_append, after_put, after_cut, after_sync, after_failure}
@@ -18,14 +18,6 @@ pub replayed_push : (first : List ℕ) (calls more : List Call) (call : Call) (o
 replayed_push first calls more call old new replayed is pushed =
     is ∙ ap (λ (p : Pending). after_change p (change_of call)) replayed ∙ sym (after_changes-push (settled first) (map change_of calls) (change_of call))
     ∙ ap (pending_after first) (sym (map-append change_of calls (call ∷ [])) ∙ ap (map change_of) (sym pushed))
-
-length-held_piece : (held : Option (ℕ × List ℕ)) → length (held_piece held) ≡ length_of_held held
-length-held_piece None = refl
-length-held_piece (Some piece) = refl
-
-told_piece : (held : Option (ℕ × List ℕ)) (old new : List ℕ) → new ≡ old ++ held_piece held → IfSome held (λ piece. Some new ≡ Some (old ++ piece.1))
-told_piece None old new is = tt
-told_piece (Some piece) old new is = ap Some is
 
 module _ (old new : Medium) where
   module _ (is : new ≡ after_failure old) where
@@ -54,18 +46,16 @@ module _ (old new : Medium) where
     bytes_appended : bytes_of new ≡ bytes_of old ++ piece
     bytes_appended = ap bytes_of is ∙ ap (λ (p : Pending). p.bytes) (pushed (Appended piece))
 
-    pub told_append : IfSome old.held (λ held. Some (bytes_of new) ≡ Some (bytes_of old ++ held.1))
-    told_append = told_piece old.held (bytes_of old) (bytes_of new) bytes_appended
+    pub told_append : Some (bytes_of new) ≡ Some (bytes_of old ++ piece)
+    told_append = ap Some bytes_appended
 
-    pub size_append : length (bytes_of new) ≡ length (bytes_of old) + length_of_held old.held
-    size_append = ap length bytes_appended ∙ length-append (bytes_of old) piece ∙ ap (λ (n : ℕ). length (bytes_of old) + n) (length-held_piece old.held)
+    pub size_append : length (bytes_of new) ≡ length (bytes_of old) + length piece
+    size_append = ap length bytes_appended ∙ length-append (bytes_of old) piece
 
-    pub images_append : AreBytes piece → Follows (Appends (length (bytes_of old) + length_of_held old.held)) (MayLeave old) (MayHaveLeft new (moment_of old))
+    pub images_append : AreBytes piece → Follows (Appends (length (bytes_of old) + length piece)) (MayLeave old) (MayHaveLeft new (moment_of old))
     images_append bytes c left =
-        let end = length (bytes_of old) + length_of_held old.held in
-        subst (λ (n : ℕ). (d : List ℕ) × MayLeave old d × Appends (length (bytes_of old) + n) d c) (length-held_piece old.held)
-        (⊎_elim (λ before. (c, before, appends_same (length (bytes_of old) + length piece) c)) (λ after. appended_image (pending old) sound piece bytes c after)
-        (since_change old.first old.changes (Appended piece) c (subst (λ (m : Medium). MayHaveLeft m (moment_of old) c) is left)))
+        ⊎_elim (λ before. (c, before, appends_same (length (bytes_of old) + length piece) c)) (λ after. appended_image (pending old) sound piece bytes c after)
+        (since_change old.first old.changes (Appended piece) c (subst (λ (m : Medium). MayHaveLeft m (moment_of old) c) is left))
 
   module _ (at byte : ℕ) (is : new ≡ after_put old at byte) where
     bytes_put : bytes_of new ≡ slice_set (bytes_of old) at byte

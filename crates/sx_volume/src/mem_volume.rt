@@ -3,7 +3,7 @@ ghost use Rattle.std.specs.Arc.{arc_value};
 ghost use Rattle.sx_outside.specs.Faults.{Rose};
 ghost use Rattle.sx_volume.specs.Change.{AreBytes, image_of};
 ghost use Rattle.sx_volume.specs.Counts.{plus};
-ghost use Rattle.sx_volume.specs.Held.{IsHeldFor, LiesInHeld, held_piece, held_range, length_of_held};
+ghost use Rattle.sx_volume.specs.Held.{IsHeldFor, LiesInHeld, held_piece, held_range};
 ghost use Rattle.sx_volume.specs.Images.{Only, IsWithin, Follows, Appends, Puts, Cuts, Elapses};
 ghost use Rattle.sx_volume.specs.Kept.{place_and_bytes};
 ghost use Rattle.sx_volume.specs.Medium.{Medium, pending, bytes_of, is_calm, moment_of, MayLeave, MayHaveLeft, after_failure, after_read, after_failed_read, after_append, after_put, after_cut, after_sync};
@@ -301,15 +301,15 @@ impl Volume for MemVolume {
     fn append(&mut self) -> Result<(), Failed>
         requires held { IsHeldFor self.old.held (length (bytes_of self.old)) }
         requires spare { 0 < self.old.spare }
-        ensures appended { OnOk result (IfSome self.old.held (λ piece. Some (bytes_of self.new) ≡ Some ((bytes_of self.old) ++ piece.1))) }
-        ensures longer { OnOk result (length (bytes_of self.new) ≡ length (bytes_of self.old) + length_of_held self.old.held) }
+        ensures appended { OnOk result (Some (bytes_of self.new) ≡ Some (bytes_of self.old ++ held_piece self.old.held)) }
+        ensures longer { OnOk result (length (bytes_of self.new) ≡ length (bytes_of self.old) + length (held_piece self.old.held)) }
         ensures held_no_more { OnOk result (self.new.held ≡ None) }
         ensures same_read { self.new.bytes_read ≡ self.old.bytes_read }
         ensures spare { self.old.spare ≤ self.new.spare + 1 }
         ensures cause { OnErr result (Rose self.old.tally.faults self.new.tally.faults) }
         ensures never_falls { self.old.tally.faults ≤ self.new.tally.faults }
         ensures goes_on_telling { IsSome (Some (bytes_of self.old)) → IsSome (Some (bytes_of self.new)) }
-        ensures images { Follows (Appends (length (bytes_of self.old) + length_of_held self.old.held)) (MayLeave self.old) (MayHaveLeft self.new (moment_of self.old)) }
+        ensures images { Follows (Appends (length (bytes_of self.old) + length (held_piece self.old.held))) (MayLeave self.old) (MayHaveLeft self.new (moment_of self.old)) }
         ensures time { Elapses (moment_of self.old) (moment_of self.new) (MayHaveLeft self.old) (MayHaveLeft self.new) }
 
         ensures fails { IsErr result ↔ FailsNext self.old.tally }

@@ -1,9 +1,10 @@
 ghost use Rattle.std.specs.Prelude.{◌≡◌, ◌+◌, ◌++◌, ◌<◌, ◌≤◌, ◌⊎◌, List, Option, Some, None, ℕ, Bool, IsTrue, IsSome, length, take, drop, slice_set, OnOk, OnErr, IfOk, IfSome};
 ghost use Rattle.std.specs.Arc.{arc_value};
+ghost use Rattle.std.specs.Option.{option_map};
 ghost use Rattle.sx_outside.specs.Faults.{Rose};
 ghost use Rattle.sx_volume.specs.Counts.{plus};
 ghost use Rattle.sx_volume.specs.Images.{Only, IsWithin, Follows, Appends, Puts, Cuts, Elapses};
-ghost use Rattle.sx_volume.specs.Held.{IsHeldFor, LiesInHeld, held_range, length_of_held};
+ghost use Rattle.sx_volume.specs.Held.{IsHeldFor, LiesInHeld, held_piece, held_range};
 
 use crate::{ReadEnd, Spot};
 use std::alloc::{AllocError, Global};
@@ -105,22 +106,22 @@ pub trait Volume {
     fn append(&mut self) -> Result<(), Failed>
         requires held { IsHeldFor (held self.old) (size self.old) }
         requires spare { 0 < spare self.old }
-        ensures appended { OnOk result (IfSome (held self.old) (λ piece. IfSome (bytes self.old) (λ all. bytes self.new ≡ Some (all ++ piece.1)))) }
-        ensures longer { OnOk result (size self.new ≡ size self.old + length_of_held (held self.old)) }
+        ensures appended { OnOk result (bytes self.new ≡ option_map (λ all. all ++ held_piece (held self.old)) (bytes self.old)) }
+        ensures longer { OnOk result (size self.new ≡ size self.old + length (held_piece (held self.old))) }
         ensures held_no_more { OnOk result (held self.new ≡ None) }
         ensures same_read { bytes_read self.new ≡ bytes_read self.old }
         ensures spare { spare self.old ≤ spare self.new + 1 }
         ensures cause { OnErr result (Rose (faults self.old) (faults self.new)) }
         ensures never_falls { faults self.old ≤ faults self.new }
         ensures goes_on_telling { IsSome (bytes self.old) → IsSome (bytes self.new) }
-        ensures images { Follows (Appends (size self.old + length_of_held (held self.old))) (is_image self.old) (was_image self.new (moment self.old)) }
+        ensures images { Follows (Appends (size self.old + length (held_piece (held self.old)))) (is_image self.old) (was_image self.new (moment self.old)) }
         ensures time { Elapses (moment self.old) (moment self.new) (was_image self.old) (was_image self.new) };
 
     /// Writes one byte over the byte at that place.
     fn put_byte(&mut self, at: u64, byte: u8) -> Result<(), Failed>
         requires place { at < size self.old }
         requires spare { 0 < spare self.old }
-        ensures written { OnOk result (IfSome (bytes self.old) (λ all. bytes self.new ≡ Some (slice_set all at byte))) }
+        ensures written { OnOk result (bytes self.new ≡ option_map (λ all. slice_set all at byte) (bytes self.old)) }
         ensures same_size { size self.new ≡ size self.old }
         ensures same_held { held self.new ≡ held self.old }
         ensures same_read { bytes_read self.new ≡ bytes_read self.old }
@@ -135,7 +136,7 @@ pub trait Volume {
     fn cut(&mut self, len: u64) -> Result<(), Failed>
         requires place { len ≤ size self.old }
         requires spare { 0 < spare self.old }
-        ensures cut { OnOk result (IfSome (bytes self.old) (λ all. bytes self.new ≡ Some (take len all))) }
+        ensures cut { OnOk result (bytes self.new ≡ option_map (λ all. take len all) (bytes self.old)) }
         ensures size { OnOk result (size self.new ≡ len) }
         ensures same_held { held self.new ≡ held self.old }
         ensures same_read { bytes_read self.new ≡ bytes_read self.old }

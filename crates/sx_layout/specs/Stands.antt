@@ -1,0 +1,31 @@
+-- What a volume's bytes stand for.
+use Rattle.std.specs.Prelude.{ℕ, ◌≡◌, ◌≤◌, ◌<◌, ◌⊎◌, List, [], ◌∷◌, Option, None, Some, length}
+use Rattle.sx_model.specs.Commit.{Commit}
+use Rattle.sx_model.specs.Edit.{after}
+use Rattle.sx_model.specs.State.{State, empty_document}
+use Rattle.sx_model.specs.Value.{Value, text_of}
+use Rattle.sx_layout.specs.Group.{Group, HasGroups}
+
+-- the canonical text of the Document's child, or nothing
+abbrev pub body_of : Option Value → List ℕ
+body_of None = []
+body_of (Some value) = text_of value
+
+-- the group of a commit that leads to this state
+abbrev pub group_of : Commit → State → Group
+group_of commit state = record { time = commit.time; next = state.next; body = body_of state.child }
+
+-- the groups of commits that go on from a state
+abbrev pub groups_from : State → List Commit → List Group
+groups_from state [] = []
+groups_from state (commit ∷ commits) =
+    group_of commit (after commit.edits state) ∷ groups_from (after commit.edits state) commits
+
+-- the groups of all commits: that of commit r has its time, and the next number and the text of the state of revision r
+abbrev pub groups_of : List Commit → List Group
+groups_of commits = groups_from empty_document commits
+
+-- The image stands for these commits. One of at most one byte stands for none.
+abbrev pub Stands : List ℕ → List Commit → Type 0
+Stands image commits =
+    ((length image ≤ 1) × (commits ≡ [])) ⊎ ((1 < length image) × HasGroups image (groups_of commits))

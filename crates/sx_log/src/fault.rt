@@ -1,0 +1,93 @@
+use std::alloc::{AllocError, AllocFailed};
+use sx_outside::Failed;
+use thiserror::Error;
+
+/// Why a volume was not opened.
+#[derive(Clone, Copy, Debug, PartialEq, Eq, Error)]
+pub enum LogFault {
+    /// A call of the volume failed.
+    #[error("the volume failed")]
+    Failed,
+    /// The volume is longer than one byte, which this layout does not open yet.
+    #[error("not a volume of this program, first byte {first}")]
+    NotOurs { first: u8 },
+    #[error("out of memory")]
+    OutOfMemory,
+}
+
+impl From<Failed> for LogFault {
+    ghost use Rattle.std.specs.Prelude.{◌≡◌};
+    ghost use Rattle.sx_log.specs.declared.fault.LogFault.TheVariants.{Failed};
+
+    ghost from_gives = { λ _ e. e ≡ Failed };
+
+    fn from(_: Failed) -> Self {
+        LogFault::Failed
+    }
+}
+
+impl From<AllocError> for LogFault {
+    ghost use Rattle.std.specs.Prelude.{◌≡◌};
+    ghost use Rattle.sx_log.specs.declared.fault.LogFault.TheVariants.{OutOfMemory};
+
+    ghost from_gives = { λ _ e. e ≡ OutOfMemory };
+
+    fn from(_: AllocError) -> Self {
+        LogFault::OutOfMemory
+    }
+}
+
+impl<T: Drop> From<AllocFailed<T>> for LogFault {
+    ghost use Rattle.std.specs.Prelude.{◌≡◌};
+    ghost use Rattle.sx_log.specs.declared.fault.LogFault.TheVariants.{OutOfMemory};
+
+    ghost from_gives = { λ _ e. e ≡ OutOfMemory };
+
+    fn from(_: AllocFailed<T>) -> Self {
+        LogFault::OutOfMemory
+    }
+}
+
+/// Why a commit was not accepted.
+#[derive(Clone, Copy, Debug, PartialEq, Eq, Error)]
+pub enum CommitFault {
+    /// A call of the volume failed. The log is not to be used any more.
+    #[error("the volume failed")]
+    Failed,
+    /// Nothing was done.
+    #[error("out of memory")]
+    OutOfMemory,
+}
+
+impl From<Failed> for CommitFault {
+    ghost use Rattle.std.specs.Prelude.{◌≡◌};
+    ghost use Rattle.sx_log.specs.declared.fault.CommitFault.TheVariants.{Failed};
+
+    ghost from_gives = { λ _ e. e ≡ Failed };
+
+    fn from(_: Failed) -> Self {
+        CommitFault::Failed
+    }
+}
+
+impl From<AllocError> for CommitFault {
+    ghost use Rattle.std.specs.Prelude.{◌≡◌};
+    ghost use Rattle.sx_log.specs.declared.fault.CommitFault.TheVariants.{OutOfMemory};
+
+    ghost from_gives = { λ _ e. e ≡ OutOfMemory };
+
+    fn from(_: AllocError) -> Self {
+        CommitFault::OutOfMemory
+    }
+}
+
+impl<T: Drop> From<AllocFailed<T>> for CommitFault {
+    ghost use Rattle.std.specs.Prelude.{◌≡◌};
+    ghost use Rattle.sx_log.specs.declared.fault.CommitFault.TheVariants.{OutOfMemory};
+
+    ghost from_gives = { λ _ e. e ≡ OutOfMemory };
+
+    fn from(_: AllocFailed<T>) -> Self {
+        CommitFault::OutOfMemory
+    }
+}

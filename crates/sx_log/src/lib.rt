@@ -1,0 +1,12 @@
+//! The log on a volume: groups, one a commit, each behind a gate that is opened when the group is safe.
+#![tactic(auto)]
+
+mod fault;
+mod group;
+mod log;
+mod opening;
+mod steps;
+
+pub use fault::{CommitFault, LogFault};
+pub use log::Log;
+pub use opening::open;

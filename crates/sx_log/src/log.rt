@@ -1,0 +1,93 @@
+ghost use Rattle.std.specs.Prelude.{◌≡◌, ◌<◌, ◌≤◌, ◌+◌, ◌++◌, [], ◌∷◌, List, Some, length, OnOk, OnErr, IfSome, IfOk, is_some, IsErrOf, slice_get};
+ghost use Rattle.sx_outside.specs.Faults.{Rose};
+ghost use Rattle.sx_layout.specs.Group.{Group, group_limit};
+ghost use Rattle.sx_log.specs.Keeps.{Keeps};
+ghost use Rattle.sx_log.specs.Times.{last_group_time};
+ghost use Rattle.sx_model.specs.Commit.{first_time};
+
+use crate::CommitFault;
+use crate::group::Row;
+use crate::steps::write_group;
+use std::alloc::Global;
+use std::marker::Model;
+use sx_volume::Volume;
+
+/// The groups of a volume, as they were read at opening and as commits added them, and where the closed gate is.
+#[derive(Drop)]
+pub struct Log {
+    pub(crate) groups: Vec<Row>,
+    pub(crate) end: u64,
+}
+
+impl Model for Log {
+    ghost use Rattle.std.specs.Prelude.{◌≡◌, List, map};
+    ghost use Rattle.sx_layout.specs.Group.{Group, end_of};
+    ghost use Rattle.sx_log.specs.Row.{shown};
+
+    ghost Value = { List Group };
+
+    ghost view = { λ log. map shown log.groups.items };
+
+    ghost invariant = { λ log. log.end ≡ end_of (map shown log.groups.items) };
+}
+
+impl Log {
+    /// How many commits there are.
+    pub fn count(&self) -> usize
+        ensures { result ≡ length self.now }
+    {
+        self.groups.len()
+    }
+
+    /// The time of the last commit, or the least time where there is none.
+    pub fn last_time(&self) -> i64
+        ensures { result ≡ last_group_time first_time self.now }
+    {
+        match self.groups.last() {
+            Some(row) => row.time,
+            None => i64::MIN,
+        }
+    }
+
+    /// The body of the group at this index, counted from 0.
+    pub fn body(&self, index: usize) -> &[u8]
+        requires { index < length self.now }
+        ensures { IfSome (slice_get self.now index) (λ group. result.now ≡ group.body) }
+    {
+        &self.groups[index].body
+    }
+
+    /// Adds a group to the volume, behind the gate that ends it, and opens the gate.
+    ///
+    /// The calls are these: a cut where something stands behind the gate, an append, a sync, the gate's byte, a sync.
+    /// After `OutOfMemory` nothing was done. After `Failed` the log is not to be used any more.
+    pub fn commit<V: Volume>(
+        &mut self,
+        alloc: Global,
+        volume: &mut V,
+        time: i64,
+        next: u32,
+        body: &[u8],
+    ) -> Result<(), CommitFault>
+        requires kept { Keeps (V.bytes volume.old) (V.size volume.old) self.old }
+        requires small { 17 + length body.now ≤ group_limit }
+        ensures added { OnOk result (self.new ≡ self.old ++ record { time = time; next = next; body = body.now } ∷ []) }
+        ensures kept { OnOk result (Keeps (V.bytes volume.new) (V.size volume.new) self.new) }
+        ensures told { OnOk result (is_some (V.bytes volume.new) ≡ is_some (V.bytes volume.old)) }
+        ensures not_added { OnErr result (self.new ≡ self.old) }
+        ensures nothing_done { IsErrOf result CommitFault.OutOfMemory → (V.bytes volume.new ≡ V.bytes volume.old) × (V.size volume.new ≡ V.size volume.old) }
+        ensures cause { IsErrOf result CommitFault.Failed → Rose (V.faults volume.old) (V.faults volume.new) }
+        ensures never_falls { V.faults volume.old ≤ V.faults volume.new }
+    {
+        let row = Row {
+            time,
+            next,
+            body: body.to_vec(alloc)?,
+        };
+        self.groups.reserve(1)?;
+        let end = write_group(alloc, volume, self.end, &row)?;
+        self.end = end;
+        self.groups.push_reserved(row);
+        Ok(())
+    }
+}

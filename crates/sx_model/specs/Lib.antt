@@ -1,0 +1,4 @@
+pub mod Commit
+pub mod Edit
+pub mod State
+pub mod Value

@@ -1,0 +1,14 @@
+-- Values of JSON (RFC 8259).
+use Rattle.std.specs.Prelude.{ℕ, List}
+
+pub data Value : Type 0 where
+  -- a number, by its literal, which is kept as it was written
+  number : List ℕ → Value
+
+-- the one canonical text of a value
+abbrev pub text_of : Value → List ℕ
+text_of (number literal) = literal
+
+-- how many nodes a value becomes
+abbrev pub nodes_of : Value → ℕ
+nodes_of (number literal) = 1

@@ -1,0 +1,5 @@
+pub mod Command
+pub mod Line
+pub mod Lines
+pub mod Reply
+pub mod Run

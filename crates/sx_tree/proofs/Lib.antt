@@ -1,0 +1,3 @@
+pub mod NumberStates
+pub mod NumberFronts
+pub mod NameLists

@@ -1,0 +1,5 @@
+pub mod Number
+pub mod NumberState
+pub mod LiteralFault
+pub mod TextFault
+pub mod Names

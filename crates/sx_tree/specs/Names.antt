@@ -1,0 +1,14 @@
+-- Names of which no two are equal, and the index that finds one.
+use Rattle.std.specs.Prelude.{ℕ, ◌≡◌, List, String, Option, Some, slice_get}
+use Rattle.std.specs.declared.alloc.Global.{Global}
+use Rattle.std.specs.BTreeMap.{BTreeMap, get_by_text}
+
+-- no name stands at two places
+abbrev pub AreDistinct : List (List ℕ) → Type 0
+AreDistinct names = (i j : ℕ) (name : List ℕ) → slice_get names i ≡ Some name → slice_get names j ≡ Some name → i ≡ j
+
+-- the index has the place of each name, and nothing else
+abbrev pub AreIndexed : List (List ℕ) → BTreeMap (String Global) ℕ → Type 0
+AreIndexed names places =
+    ((name : List ℕ) (i : ℕ) → get_by_text places name ≡ Some i → slice_get names i ≡ Some name)
+    × ((name : List ℕ) (i : ℕ) → slice_get names i ≡ Some name → get_by_text places name ≡ Some i)

@@ -1,0 +1,122 @@
+//! The text of a JSON number.
+ghost use Rattle.std.specs.Prelude.{◌≡◌, ◌≤◌, IfOk, IfErr, length};
+ghost use Rattle.sx_tree.specs.Number.{IsNumber};
+
+use crate::number::number_front;
+use std::alloc::{AllocError, Global};
+use std::marker::Model;
+use thiserror::Error;
+
+/// The greatest number of bytes of a literal.
+pub const LITERAL_BYTES: usize = 64;
+
+/// Why bytes are no literal.
+#[derive(Clone, Copy, Debug, PartialEq, Eq, Drop, Error)]
+pub enum LiteralFault {
+    /// There are more than 64 bytes, and this is how many.
+    #[error("a number of {bytes} bytes is too long")]
+    TooLong { bytes: u64 },
+    /// No number goes on with the byte at this place, or it ended too soon, at the length.
+    #[error("no number goes on at byte {at}")]
+    Bad { at: u64 },
+    #[error("out of memory")]
+    OutOfMemory,
+}
+
+/// The text of a number of RFC 8259 section 6, of at most 64 bytes, kept as it was written.
+#[derive(Drop)]
+pub struct Literal {
+    bytes: Vec<u8>,
+}
+
+impl Model for Literal {
+    ghost use Rattle.std.specs.Prelude.{List, ℕ, ◌≤◌, length};
+    ghost use Rattle.sx_tree.specs.Number.{IsNumber};
+
+    ghost Value = { List ℕ };
+
+    ghost view = { λ l. l.bytes.items };
+
+    ghost invariant = { λ l. ∥ IsNumber l.bytes.items ∥₁ × (length l.bytes.items ≤ 64) };
+}
+
+impl Literal {
+    ghost use Rattle.sx_tree.specs.LiteralFault.{ExplainsLiteral};
+
+    /// The literal of these bytes.
+    ///
+    /// # Errors
+    ///
+    /// `TooLong` above 64 bytes; then `Bad` at the first byte with which no number goes on, which is
+    /// the length where the number ended too soon; then `OutOfMemory`.
+    pub fn new(alloc: Global, bytes: &[u8]) -> Result<Literal, LiteralFault>
+        ensures same { IfOk result (λ literal. literal ≡ bytes.now) }
+        ensures number { IfOk result (λ _. IsNumber bytes.now) }
+        ensures short { IfOk result (λ _. length bytes.now ≤ 64) }
+        ensures fault { IfErr result (ExplainsLiteral bytes.now) }
+    {
+        if bytes.len() > LITERAL_BYTES {
+            return Err(LiteralFault::TooLong {
+                bytes: bytes.len() as u64,
+            });
+        }
+        let front = number_front(bytes);
+        if front.len < bytes.len() || !front.is_number {
+            return Err(LiteralFault::Bad {
+                at: front.len as u64,
+            });
+        }
+        match bytes.to_vec(alloc) {
+            Ok(bytes) => Ok(Literal { bytes }),
+            Err(_) => Err(LiteralFault::OutOfMemory),
+        }
+    }
+
+    /// The bytes of the number.
+    pub fn as_bytes(&self) -> &[u8]
+        ensures same { result.now ≡ self.now }
+        ensures number { ∥ IsNumber self.now ∥₁ }
+        ensures short { length self.now ≤ 64 }
+    {
+        self.bytes.as_slice()
+    }
+
+    /// An equal literal.
+    pub fn copy(&self, alloc: Global) -> Result<Literal, AllocError>
+        ensures { IfOk result (λ literal. literal ≡ self.now) }
+    {
+        let bytes = self.bytes.as_slice().to_vec(alloc)?;
+        Ok(Literal { bytes })
+    }
+}
+
+#[cfg(test)]
+mod tests {
+    use super::*;
+    use std::test::Fail;
+
+    #[test]
+    fn literals(rt: HostRuntime) -> Result<(), Fail> {
+        let digits = [b'1'; 65];
+        let accepted: [&[u8]; 4] = [b"0", b"-0", b"1.50e+3", &digits[..64]];
+        for text in accepted {
+            let literal = Literal::new(rt.alloc(), text)?.copy(rt.alloc())?;
+            assert_eq!(rt; literal.as_bytes(), text);
+        }
+        let refused: [(&[u8], LiteralFault); 8] = [
+            (b"01", LiteralFault::Bad { at: 1 }),
+            (b"+1", LiteralFault::Bad { at: 0 }),
+            (b"1.", LiteralFault::Bad { at: 2 }),
+            (b".5", LiteralFault::Bad { at: 0 }),
+            (b"1e", LiteralFault::Bad { at: 2 }),
+            (b"-", LiteralFault::Bad { at: 1 }),
+            (b"", LiteralFault::Bad { at: 0 }),
+            (&digits, LiteralFault::TooLong { bytes: 65 }),
+        ];
+        for (text, fault) in refused {
+            let found = Literal::new(rt.alloc(), text).map(|_| ());
+            assert_eq!(rt; found, Err(fault));
+        }
+        Ok(())
+    }
+}

@@ -1,0 +1,123 @@
+//! A text of a JSON document: a string's content, or a name.
+ghost use Rattle.std.specs.Prelude.{◌≡◌, ◌≤◌, IfOk, IfErr, IsUtf8, length};
+
+use std::alloc::{AllocError, Global};
+use std::marker::Model;
+use std::str;
+use thiserror::Error;
+
+/// The greatest number of bytes of a text.
+pub const TEXT_BYTES: usize = 1_048_576;
+
+/// Why bytes are no text.
+#[derive(Clone, Copy, Debug, PartialEq, Eq, Drop, Error)]
+pub enum TextFault {
+    /// The bytes from this place on do not begin with a character in UTF-8.
+    #[error("no UTF-8 at byte {at}")]
+    NotUtf8 { at: u64 },
+    /// There are more than 1,048,576 bytes, and this is how many.
+    #[error("a text of {bytes} bytes is too long")]
+    TooLong { bytes: u64 },
+    #[error("out of memory")]
+    OutOfMemory,
+}
+
+/// A text in UTF-8, of at most 1,048,576 bytes.
+#[derive(Drop)]
+pub struct Text {
+    text: String,
+}
+
+impl Model for Text {
+    ghost use Rattle.std.specs.Prelude.{List, ℕ, ◌≤◌, length, string_bytes};
+
+    ghost Value = { List ℕ };
+
+    ghost view = { λ t. string_bytes t.text };
+
+    ghost invariant = { λ t. length (string_bytes t.text) ≤ 1_048_576 };
+}
+
+impl Text {
+    ghost use Rattle.sx_tree.specs.TextFault.{ExplainsText};
+
+    /// The text of these bytes.
+    ///
+    /// # Errors
+    ///
+    /// `NotUtf8` at the first place where the bytes are no UTF-8, as `std::str::from_utf8` tells it;
+    /// then `TooLong` above 1,048,576 bytes; then `OutOfMemory`.
+    pub fn new(alloc: Global, bytes: &[u8]) -> Result<Text, TextFault>
+        ensures same { IfOk result (λ text. text ≡ bytes.now) }
+        ensures utf8 { IfOk result (λ _. IsUtf8 bytes.now) }
+        ensures short { IfOk result (λ _. length bytes.now ≤ 1_048_576) }
+        ensures fault { IfErr result (ExplainsText bytes.now) }
+    {
+        let text = match str::from_utf8(bytes) {
+            Ok(text) => text,
+            Err(error) => {
+                return Err(TextFault::NotUtf8 {
+                    at: error.valid_up_to() as u64,
+                });
+            }
+        };
+        if text.len() > TEXT_BYTES {
+            return Err(TextFault::TooLong {
+                bytes: text.len() as u64,
+            });
+        }
+        match String::from_str(alloc, text) {
+            Ok(text) => Ok(Text { text }),
+            Err(_) => Err(TextFault::OutOfMemory),
+        }
+    }
+
+    /// The text.
+    pub fn as_str(&self) -> &str
+        ensures same { result.now ≡ self.now }
+        ensures utf8 { IsUtf8 self.now }
+        ensures short { length self.now ≤ 1_048_576 }
+    {
+        self.text.as_str()
+    }
+
+    /// The bytes of the text.
+    pub fn as_bytes(&self) -> &[u8]
+        ensures same { result.now ≡ self.now }
+        ensures utf8 { IsUtf8 self.now }
+        ensures short { length self.now ≤ 1_048_576 }
+    {
+        self.text.as_str().as_bytes()
+    }
+
+    /// An equal text.
+    pub fn copy(&self, alloc: Global) -> Result<Text, AllocError>
+        ensures { IfOk result (λ text. text ≡ self.now) }
+    {
+        let text = String::from_str(alloc, self.text.as_str())?;
+        Ok(Text { text })
+    }
+}
+
+#[cfg(test)]
+mod tests {
+    use super::*;
+    use std::test::Fail;
+
+    #[test]
+    fn texts(rt: HostRuntime) -> Result<(), Fail> {
+        let long = Vec::from_elem(rt.alloc(), b'a', TEXT_BYTES + 1)?;
+        let text = Text::new(rt.alloc(), &long[..TEXT_BYTES])?.copy(rt.alloc())?;
+        assert_eq!(rt; text.as_str().len(), TEXT_BYTES);
+        let refused: [(&[u8], TextFault); 4] = [
+            (&long, TextFault::TooLong { bytes: 1_048_577 }),
+            (b"a\xc3", TextFault::NotUtf8 { at: 1 }),
+            (b"\xc3\xa4\xff!", TextFault::NotUtf8 { at: 2 }),
+            (b"\xed\xa0\x80", TextFault::NotUtf8 { at: 0 }),
+        ];
+        for (bytes, fault) in refused {
+            assert_eq!(rt; Text::new(rt.alloc(), bytes).map(|_| ()), Err(fault));
+        }
+        Ok(())
+    }
+}
