@@ -6,6 +6,7 @@ abbrev pub IsHeldFor : Option (ℕ × List ℕ) → ℕ → Type 0
 IsHeldFor None place = ⊥
 IsHeldFor (Some held) place = held.0 ≡ place
 
+-- the bytes of the held piece
 abbrev pub held_piece : Option (ℕ × List ℕ) → List ℕ
 held_piece None = []
 held_piece (Some held) = held.1
@@ -19,3 +20,8 @@ LiesInHeld (Some held) at count = (held.0 ≤ at) × (at + count ≤ held.0 + le
 abbrev pub held_range : Option (ℕ × List ℕ) → ℕ → ℕ → List ℕ
 held_range None at count = []
 held_range (Some held) at count = take count (drop (at - held.0) held.1)
+
+-- where the held piece ends, at the place that it is held for
+abbrev pub held_end : Option (ℕ × List ℕ) → ℕ
+held_end None = 0
+held_end (Some held) = held.0 + length held.1

@@ -1,2 +1,9 @@
+pub mod Change
+pub mod Content
 pub mod Counts
 pub mod Held
+pub mod Images
+pub mod Kept
+pub mod Medium
+pub mod Replay
+pub mod Tally

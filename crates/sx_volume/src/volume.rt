@@ -1,8 +1,9 @@
-ghost use Rattle.std.specs.Prelude.{◌≡◌, ◌+◌, ◌++◌, ◌<◌, ◌≤◌, ◌⊎◌, List, Option, Some, None, ℕ, Bool, IsTrue, length, take, drop, slice_set, OnOk, OnErr, IfOk, IfSome};
+ghost use Rattle.std.specs.Prelude.{◌≡◌, ◌+◌, ◌++◌, ◌<◌, ◌≤◌, ◌⊎◌, List, Option, Some, None, ℕ, Bool, IsTrue, IsSome, length, take, drop, slice_set, OnOk, OnErr, IfOk, IfSome};
 ghost use Rattle.std.specs.Arc.{arc_value};
 ghost use Rattle.std.specs.Option.{option_map};
 ghost use Rattle.sx_outside.specs.Faults.{Rose};
 ghost use Rattle.sx_volume.specs.Counts.{plus};
+ghost use Rattle.sx_volume.specs.Images.{Only, IsWithin, Follows, Appends, Puts, Cuts, Elapses};
 ghost use Rattle.sx_volume.specs.Held.{IsHeldFor, LiesInHeld, held_piece, held_range};
 
 use crate::{ReadEnd, Spot};
@@ -40,6 +41,16 @@ pub trait Volume {
     /// Nothing was written since the last sync that succeeded.
     ghost calm: { Self → Bool };
 
+    /// The number of moments so far. It never falls.
+    ghost moment: { Self → ℕ };
+
+    /// A crash now may leave these bytes. Of a volume that does not tell its bytes nothing is known: there any list
+    /// passes, and passes `was_image` too.
+    ghost is_image: { Self → List ℕ → Type 0 };
+
+    /// A crash at some moment since that one, within a call or between two, may have left these bytes.
+    ghost was_image: { Self → ℕ → List ℕ → Type 0 };
+
     /// The length in bytes.
     fn len(&self) -> u64
         ensures value { result ≡ size self.now }
@@ -56,7 +67,10 @@ pub trait Volume {
         ensures counted { bytes_read self.new ≡ plus (bytes_read self.old) (length room.old) }
         ensures calm { IsTrue (calm self.old) → IsTrue (calm self.new) }
         ensures cause { OnErr result (Rose (faults self.old) (faults self.new)) }
-        ensures never_falls { faults self.old ≤ faults self.new };
+        ensures never_falls { faults self.old ≤ faults self.new }
+        ensures no_image_more { IsWithin (is_image self.old) (was_image self.new (moment self.old)) }
+        ensures no_image_less { IsWithin (is_image self.new) (is_image self.old) }
+        ensures time { Elapses (moment self.old) (moment self.new) (was_image self.old) (was_image self.new) };
 
     /// Keeps the piece for the append at that place, instead of one that was held before, and takes the memory
     /// that the append will need. A refusal changes nothing.
@@ -68,7 +82,10 @@ pub trait Volume {
         ensures same_read { bytes_read self.new ≡ bytes_read self.old }
         ensures spare { spare self.old ≤ spare self.new }
         ensures calm { IsTrue (calm self.old) → IsTrue (calm self.new) }
-        ensures never_falls { faults self.old ≤ faults self.new };
+        ensures never_falls { faults self.old ≤ faults self.new }
+        ensures no_image_more { IsWithin (is_image self.old) (was_image self.new (moment self.old)) }
+        ensures no_image_less { IsWithin (is_image self.new) (is_image self.old) }
+        ensures time { Elapses (moment self.old) (moment self.new) (was_image self.old) (was_image self.new) };
 
     /// Makes the spare calls at least so many, by taking the memory that they need. A refusal changes nothing.
     fn ready(&mut self, alloc: Global, calls: u32) -> Result<(), AllocError>
@@ -80,7 +97,10 @@ pub trait Volume {
         ensures same_held { held self.new ≡ held self.old }
         ensures same_read { bytes_read self.new ≡ bytes_read self.old }
         ensures calm { IsTrue (calm self.old) → IsTrue (calm self.new) }
-        ensures never_falls { faults self.old ≤ faults self.new };
+        ensures never_falls { faults self.old ≤ faults self.new }
+        ensures no_image_more { IsWithin (is_image self.old) (was_image self.new (moment self.old)) }
+        ensures no_image_less { IsWithin (is_image self.new) (is_image self.old) }
+        ensures time { Elapses (moment self.old) (moment self.new) (was_image self.old) (was_image self.new) };
 
     /// Appends the held piece, which is held no more.
     fn append(&mut self) -> Result<(), Failed>
@@ -92,7 +112,10 @@ pub trait Volume {
         ensures same_read { bytes_read self.new ≡ bytes_read self.old }
         ensures spare { spare self.old ≤ spare self.new + 1 }
         ensures cause { OnErr result (Rose (faults self.old) (faults self.new)) }
-        ensures never_falls { faults self.old ≤ faults self.new };
+        ensures never_falls { faults self.old ≤ faults self.new }
+        ensures goes_on_telling { IsSome (bytes self.old) → IsSome (bytes self.new) }
+        ensures images { Follows (Appends (size self.old + length (held_piece (held self.old)))) (is_image self.old) (was_image self.new (moment self.old)) }
+        ensures time { Elapses (moment self.old) (moment self.new) (was_image self.old) (was_image self.new) };
 
     /// Writes one byte over the byte at that place.
     fn put_byte(&mut self, at: u64, byte: u8) -> Result<(), Failed>
@@ -104,7 +127,10 @@ pub trait Volume {
         ensures same_read { bytes_read self.new ≡ bytes_read self.old }
         ensures spare { spare self.old ≤ spare self.new + 1 }
         ensures cause { OnErr result (Rose (faults self.old) (faults self.new)) }
-        ensures never_falls { faults self.old ≤ faults self.new };
+        ensures never_falls { faults self.old ≤ faults self.new }
+        ensures goes_on_telling { IsSome (bytes self.old) → IsSome (bytes self.new) }
+        ensures images { Follows (Puts at) (is_image self.old) (was_image self.new (moment self.old)) }
+        ensures time { Elapses (moment self.old) (moment self.new) (was_image self.old) (was_image self.new) };
 
     /// Makes the length `len`, by dropping what stands behind.
     fn cut(&mut self, len: u64) -> Result<(), Failed>
@@ -116,7 +142,10 @@ pub trait Volume {
         ensures same_read { bytes_read self.new ≡ bytes_read self.old }
         ensures spare { spare self.old ≤ spare self.new + 1 }
         ensures cause { OnErr result (Rose (faults self.old) (faults self.new)) }
-        ensures never_falls { faults self.old ≤ faults self.new };
+        ensures never_falls { faults self.old ≤ faults self.new }
+        ensures goes_on_telling { IsSome (bytes self.old) → IsSome (bytes self.new) }
+        ensures images { Follows (Cuts len) (is_image self.old) (was_image self.new (moment self.old)) }
+        ensures time { Elapses (moment self.old) (moment self.new) (was_image self.old) (was_image self.new) };
 
     /// At `Ok` all that was written is kept through a crash, and the volume is calm.
     fn sync(&mut self) -> Result<(), Failed>
@@ -128,7 +157,11 @@ pub trait Volume {
         ensures same_read { bytes_read self.new ≡ bytes_read self.old }
         ensures spare { spare self.old ≤ spare self.new + 1 }
         ensures cause { OnErr result (Rose (faults self.old) (faults self.new)) }
-        ensures never_falls { faults self.old ≤ faults self.new };
+        ensures never_falls { faults self.old ≤ faults self.new }
+        ensures goes_on_telling { IsSome (bytes self.old) → IsSome (bytes self.new) }
+        ensures durable { OnOk result (IfSome (bytes self.old) (λ all. Only all (is_image self.new))) }
+        ensures images { IsWithin (is_image self.old) (was_image self.new (moment self.old)) }
+        ensures time { Elapses (moment self.old) (moment self.new) (was_image self.old) (was_image self.new) };
 
     /// A spot for a range of the held piece, or of a calm volume. What the spot tells never changes.
     fn spot(&self, alloc: Global, at: u64, count: u32) -> Result<Self::Spot, AllocError>
@@ -137,6 +170,15 @@ pub trait Volume {
         ensures held { IfOk result (λ spot. IfSome (bytes self.now) (λ all. LiesInHeld (held self.now) at count → Self.Spot.content spot ≡ Some (held_range (held self.now) at count))) }
         ensures read { IfOk result (λ spot. IfSome (bytes self.now) (λ all. (LiesInHeld (held self.now) at count → ⊥) → Self.Spot.content spot ≡ Some (take count (drop at all)))) };
 
-    /// Where the bytes are told, the length is theirs.
-    ghost as_long_as_told: { (volume : Self) → IfSome (bytes volume) (λ all. length all ≡ size volume) };
+    /// This moment is one of those since an earlier one.
+    ghost counts_now: { (volume : Self) (t : ℕ) (c : List ℕ) → t ≤ moment volume → is_image volume c → was_image volume t c };
+
+    /// Since this moment there is no other.
+    ghost only_now: { (volume : Self) (c : List ℕ) → was_image volume (moment volume) c → is_image volume c };
+
+    /// Where the bytes are told, they have the volume's length.
+    ghost told_size: { (volume : Self) (all : List ℕ) → bytes volume ≡ Some all → length all ≡ size volume };
+
+    /// The volume as it reads is one of its images.
+    ghost reads: { (volume : Self) (all : List ℕ) → bytes volume ≡ Some all → is_image volume all };
 }

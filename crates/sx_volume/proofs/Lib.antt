@@ -1,0 +1,5 @@
+mod Grown
+mod Image
+pub mod Images
+mod Told
+mod Steps
