@@ -24,3 +24,8 @@ one_byte None byte one first = refl
 one_byte (Some []) byte one first = absurd (omega (arith, one))
 one_byte (Some (x ∷ [])) byte one first = let same : x ≡ byte = cc first in ap (λ (b : ℕ). Some (b ∷ [])) same
 one_byte (Some (x ∷ y ∷ bytes)) byte one first = absurd (omega (arith, one))
+
+-- what holds of the bytes where they are told
+pub if_told : (bytes : Option (List ℕ)) (size : ℕ) → ((all : List ℕ) → bytes ≡ Some all → length all ≡ size) → IfSome bytes (λ all. length all ≡ size)
+if_told None size told = tt
+if_told (Some all) size told = told all refl

@@ -14,14 +14,11 @@ pub returns-in-Err-Failed-clause-run : goal.returns-in-Err-Failed-clause-run
 returns-in-Err-Failed-clause-run g c = λ image input before told short left written.
     (input, [], started [] (g.C.Clock.moments c.args.clock.now), left, nothing_more before (g.K.Sink.written c.args.sink.now) written, inl (refl, refl), λ differs. absurd (differs refl))
 
-too_long : (bytes : Option (List ℕ)) (image : List ℕ) (size : ℕ) → bytes ≡ Some image → length image ≤ 1 → 1 < size → IfSome bytes (λ all. length all ≡ size) → ⊥
-too_long bytes image size told short long same =
-    let is : length image ≡ size = subst (λ (b : Option (List ℕ)). IfSome b (λ all. length all ≡ size)) told same in omega arith
-
 pub returns-in-Err-NotOurs-clause-run : goal.returns-in-Err-NotOurs-clause-run
 returns-in-Err-NotOurs-clause-run g c = λ image input before told short left written.
     let long = (c.in-Err-NotOurs.ensures.not_ours c.in-Err-NotOurs.first c.in-Err-NotOurs.field-0-is).0 in
-    absurd (too_long (g.V.Volume.bytes c.args.volume.now) image (g.V.Volume.size c.args.volume.now) told short long (g.met.V.Volume.as_long_as_told c.args.volume.now))
+    let same = g.met.V.Volume.told_size c.args.volume.now image told in
+    absurd (omega (arith, same, short, long))
 
 pub returns-in-Err-NotOurs-clause-not_ours : goal.returns-in-Err-NotOurs-clause-not_ours
 returns-in-Err-NotOurs-clause-not_ours g c = λ first same.
