@@ -1,7 +1,7 @@
-ghost use Rattle.std.specs.Prelude.{◌≡◌, ◌≤◌, ◌↔◌, IsSome, IfNone, length};
+ghost use Rattle.std.specs.Prelude.{◌≡◌, ◌<◌, ◌≤◌, ◌↔◌, ◌++◌, ◌∷◌, IsSome, IfSome, IfNone, MatchOption, drop, length, take};
 ghost use Rattle.std.specs.Option.{option_copied};
-ghost use Rattle.std.specs.Int.{w32, w64, w128};
-ghost use Rattle.sx_bytes.specs.Front.{Gives, front_byte, front_number, front_piece};
+ghost use Rattle.std.specs.Int.{w32, w64, w128, to_be_bytes};
+ghost use Rattle.sx_bytes.specs.Front.{AreBytes, Gives, front_byte, front_number, front_piece};
 
 use std::marker::Model;
 
@@ -19,6 +19,14 @@ impl<'a> Model for Fields<'a> {
     ghost Value = { List ℕ };
 
     ghost view = { λ fields. fields.left.now };
+}
+
+/// The first N bytes, and those behind them.
+fn split_chunk<const N: usize>(bytes: &[u8]) -> Option<(&[u8; N], &[u8])>
+    ensures parts { MatchOption result (length bytes.now < N) (λ p. (N ≤ length bytes.now) × (p.0.now ≡ take N bytes.now) × (p.1.now ≡ drop N bytes.now)) }
+    ensures bytes { AreBytes bytes.now }
+{
+    bytes.split_first_chunk::<N>()
 }
 
 impl<'a> Fields<'a> {
@@ -46,6 +54,7 @@ impl<'a> Fields<'a> {
     /// The next byte.
     pub fn u8(&mut self) -> Option<u8>
         ensures enough { IsSome result ↔ (1 ≤ length self.old) }
+        ensures written { IfSome result (λ x. self.old ≡ x ∷ self.new) }
         ensures read { Gives result self.new (front_byte self.old) }
         ensures none { IfNone result (self.new ≡ self.old) }
     {
@@ -58,10 +67,11 @@ impl<'a> Fields<'a> {
     #[tactic(auto, unfolding(crate::specs::Front::front_number))]
     pub fn u32(&mut self) -> Option<u32>
         ensures enough { IsSome result ↔ (4 ≤ length self.old) }
+        ensures written { IfSome result (λ x. self.old ≡ to_be_bytes w32 x ++ self.new) }
         ensures read { Gives result self.new (front_number w32 self.old) }
         ensures none { IfNone result (self.new ≡ self.old) }
     {
-        let (bytes, rest) = self.left.split_first_chunk::<4>()?;
+        let (bytes, rest) = split_chunk::<4>(self.left)?;
         self.left = rest;
         Some(u32::from_be_bytes(*bytes))
     }
@@ -70,10 +80,11 @@ impl<'a> Fields<'a> {
     #[tactic(auto, unfolding(crate::specs::Front::front_number))]
     pub fn u64(&mut self) -> Option<u64>
         ensures enough { IsSome result ↔ (8 ≤ length self.old) }
+        ensures written { IfSome result (λ x. self.old ≡ to_be_bytes w64 x ++ self.new) }
         ensures read { Gives result self.new (front_number w64 self.old) }
         ensures none { IfNone result (self.new ≡ self.old) }
     {
-        let (bytes, rest) = self.left.split_first_chunk::<8>()?;
+        let (bytes, rest) = split_chunk::<8>(self.left)?;
         self.left = rest;
         Some(u64::from_be_bytes(*bytes))
     }
@@ -82,10 +93,11 @@ impl<'a> Fields<'a> {
     #[tactic(auto, unfolding(crate::specs::Front::front_number))]
     pub fn u128(&mut self) -> Option<u128>
         ensures enough { IsSome result ↔ (16 ≤ length self.old) }
+        ensures written { IfSome result (λ x. self.old ≡ to_be_bytes w128 x ++ self.new) }
         ensures read { Gives result self.new (front_number w128 self.old) }
         ensures none { IfNone result (self.new ≡ self.old) }
     {
-        let (bytes, rest) = self.left.split_first_chunk::<16>()?;
+        let (bytes, rest) = split_chunk::<16>(self.left)?;
         self.left = rest;
         Some(u128::from_be_bytes(*bytes))
     }
@@ -94,6 +106,7 @@ impl<'a> Fields<'a> {
     #[tactic(auto, unfolding(crate::specs::Front::front_piece))]
     pub fn bytes(&mut self, n: u32) -> Option<&'a [u8]>
         ensures enough { IsSome result ↔ (n ≤ length self.old) }
+        ensures written { IfSome result (λ piece. (self.old ≡ piece.now ++ self.new) × (length piece.now ≡ n)) }
         ensures read { Gives (option_copied result) self.new (front_piece n self.old) }
         ensures none { IfNone result (self.new ≡ self.old) }
     {
