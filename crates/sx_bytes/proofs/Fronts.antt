@@ -63,7 +63,7 @@ front_number_takes w bytes f wide fits e =
     let front = AreBytes-take (byte_len w) bytes fits in
     let parts : bytes ≡ to_be_bytes w (from_be_bytes w (take (byte_len w) bytes)) ++ drop (byte_len w) bytes = rw (number_back w (take (byte_len w) bytes) wide len front) (sym (take-append-drop (byte_len w) bytes)) in
     subst (λ (x : ℕ × List ℕ). Takes bytes (to_be_bytes w x.0) x.1 × (x.0 < 256 ^ byte_len w)) (some_is _ f g.1)
-      (record { parts = parts; rest_fits = AreBytes-drop (byte_len w) bytes fits }, number_below w (take (byte_len w) bytes) wide len front)
+    (record { parts = parts; rest_fits = AreBytes-drop (byte_len w) bytes fits }, number_below w (take (byte_len w) bytes) wide len front)
 
 pub front_number_again : (w : Width) (n : ℕ) (rest : List ℕ) → 0 < byte_len w → n < 256 ^ byte_len w → front_number w (to_be_bytes w n ++ rest) ≡ Some (n, rest)
 unfolding front_number
@@ -81,7 +81,7 @@ front_piece_takes n bytes f fits e =
     let long : n ≤ length bytes = ltb-false _ _ g.0 in
     let len : length (take n bytes) ≡ n = omega (arith, length-take n bytes) in
     subst (λ (x : List ℕ × List ℕ). Takes bytes x.0 x.1 × (length x.0 ≡ n)) (some_is _ f g.1)
-      (record { parts = sym (take-append-drop n bytes); rest_fits = AreBytes-drop n bytes fits }, len)
+    (record { parts = sym (take-append-drop n bytes); rest_fits = AreBytes-drop n bytes fits }, len)
 
 pub front_piece_again : (piece rest : List ℕ) → front_piece (length piece) (piece ++ rest) ≡ Some (piece, rest)
 unfolding front_piece

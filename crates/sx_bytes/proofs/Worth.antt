@@ -75,7 +75,7 @@ high_first-worth (byte ∷ bytes) h =
     let low = worth-lt bytes (AreBytes-rest byte bytes h) in
     let small : byte < 256 = h 0 in
     let first : byte_at (length bytes) (byte * 256 ^ length bytes + worth bytes) ≡ byte =
-        byte_at-div (length bytes) (byte * 256 ^ length bytes + worth bytes) ∙ ap (λ q. q % 256) (div-mul-add byte (256 ^ length bytes) (worth bytes) low) ∙ omega arith in
+    byte_at-div (length bytes) (byte * 256 ^ length bytes + worth bytes) ∙ ap (λ q. q % 256) (div-mul-add byte (256 ^ length bytes) (worth bytes) low) ∙ omega arith in
     let below = high_first-add (length bytes) byte (worth bytes) ∙ high_first-worth bytes (AreBytes-rest byte bytes h) in
     λ i. first i ∷ below i
 

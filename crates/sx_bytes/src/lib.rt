@@ -9,3 +9,6 @@ mod fields_out;
 pub use damage::Damage;
 pub use fields::Fields;
 pub use fields_out::FieldsOut;
+
+#[cfg(test)]
+mod tests;
