@@ -1,5 +1,5 @@
 -- The names and the values of members are the lists that the members were zipped of.
-use Rattle.std.proofs.Common.{◌≡◌, ℕ, suc, List, [], ◌∷◌, ◌++◌, refl, ap, length, map, arith}
+use Rattle.std.proofs.Common.{◌≡◌, ℕ, List, [], ◌∷◌, ◌++◌, refl, ap, length, map, arith}
 use Rattle.std.specs.List.{zip}
 use Rattle.sx_tree.specs.Names.{names_of}
 

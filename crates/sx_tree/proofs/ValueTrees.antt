@@ -5,7 +5,7 @@ use Rattle.std.proofs.lemmas.List.{take_more}
 use Rattle.sx_tree.specs.declared.json.Scalar.{Scalar}
 use Rattle.sx_tree.specs.declared.json.Json as json
 use Rattle.sx_tree.specs.declared.json.Json.{Json, the_lemmas}
-use Rattle.sx_tree.specs.Value.{Value, scalar, array, object, value_of, values_of, fields_of, depth, depth_of_values, depth_of_fields, nodes, nodes_of_values, nodes_of_fields}
+use Rattle.sx_tree.specs.Value.{scalar, array, object, value_of, values_of, fields_of, depth, depth_of_values, depth_of_fields, nodes, nodes_of_values, nodes_of_fields}
 
 pub value_of-Scalar : (s : Scalar) → value_of (json.Scalar s) ≡ scalar s
 value_of-Scalar s = search (rules, the_lemmas)

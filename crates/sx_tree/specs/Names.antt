@@ -1,5 +1,5 @@
 -- Names of which no two are equal, and the index that finds one.
-use Rattle.std.specs.Prelude.{ℕ, ◌≡◌, List, map, String, Option, Some, slice_get}
+use Rattle.std.specs.Prelude.{ℕ, ◌≡◌, List, map, String, Some, slice_get}
 use Rattle.std.specs.declared.alloc.Global.{Global}
 use Rattle.std.specs.BTreeMap.{BTreeMap, get_by_text}
 

@@ -1,6 +1,7 @@
 //! The plain types of a JSON document (RFC 8259).
 #![tactic(auto)]
 
+pub mod bytes;
 pub mod json;
 pub mod literal;
 pub mod member_list;

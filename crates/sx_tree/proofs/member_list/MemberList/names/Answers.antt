@@ -1,5 +1,5 @@
-use Rattle.std.proofs.Common.{◌≡◌, subst, sym, ap, ◌∙◌}
-use Rattle.sx_tree.specs.Names.{AreDistinct, names_of}
+use Rattle.std.proofs.Common.{subst, sym, ◌∙◌}
+use Rattle.sx_tree.specs.Names.{AreDistinct}
 use Rattle.sx_tree.proofs.MemberLists.{names_of-zip}
 use Rattle.sx_tree.proofs.member_list.MemberList.names.Goals as goal
 

@@ -1,4 +1,4 @@
-use Rattle.std.proofs.Common.{◌≡◌, sym, ◌∙◌}
+use Rattle.std.proofs.Common.{sym, ◌∙◌}
 use Rattle.sx_tree.proofs.MemberLists.{values-zip}
 use Rattle.sx_tree.proofs.member_list.MemberList.values.Goals as goal
 

@@ -1,9 +1,8 @@
-use Rattle.std.proofs.Common.{◌≡◌, ◌++◌, ◌∷◌, [], ℕ, List, Some, Contains, length, rules, string_bytes, subst, sym, ap, ◌∙◌, add-zero}
+use Rattle.std.proofs.Common.{◌≡◌, ◌++◌, ◌∷◌, [], ℕ, List, Some, Contains, length, rules, string_bytes, subst}
 use Rattle.std.proofs.lemmas.Map.Text.{btree_map_updates_text}
 use Rattle.std.specs.BTreeMap.{get_by_text}
 use Rattle.std.specs.Map.{update}
 use Rattle.std.specs.Str.{bytes_eq}
-use Rattle.sx_tree.specs.Names.{AreIndexed}
 use Rattle.sx_tree.proofs.NameLists.{AreIndexed-push}
 use Rattle.sx_tree.proofs.names.Names.push.Goals as goal
 
