@@ -6,3 +6,4 @@ pub mod Names
 pub mod MemberFault
 pub mod Value
 pub mod formers
+pub mod Record

@@ -7,4 +7,5 @@ pub mod literal;
 pub mod member_list;
 mod names;
 pub mod number;
+pub mod record;
 pub mod text;
