@@ -1,6 +1,6 @@
 //! What is kept of a node and of a path.
 
-ghost use Rattle.std.specs.Prelude.{◌<◌};
+ghost use Rattle.std.specs.Prelude.{◌<◌, ◌^◌};
 ghost use Rattle.sx_tree.specs.Record.{IsLink, IsLabel};
 
 use crate::text::Text;
@@ -46,6 +46,9 @@ pub struct NodeRecord {
     ghost right_fits: { IsLink right },
     ghost first_fits: { IsLink first },
     ghost last_fits: { IsLink last },
+    ghost children_fits: { children < 4_294_967_296 },
+    ghost descendants_fits: { descendants < 4_294_967_296 },
+    ghost hash_fits: { hash < 2 ^ 128 },
     ghost path_fits: { path < 1_073_741_824 },
     ghost label_fits: { ∥ IsLabel kind label ∥₁ },
 }
@@ -70,4 +73,5 @@ pub struct PathRecord {
     /// How many values stand on the path.
     pub count: u32,
     ghost parent_fits: { parent < 1_073_741_824 },
+    ghost count_fits: { count < 4_294_967_296 },
 }
