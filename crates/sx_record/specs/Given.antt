@@ -8,6 +8,15 @@ given_path f = record { parent = f.parent; step = f.step; count = f.count; name 
 
 abbrev pub given_node : GivenNode → NodeFields
 given_node f = record {
-  kind = f.kind; parent = f.parent; left = f.left; right = f.right; first = f.first; last = f.last;
-  children = f.children; descendants = f.descendants; hash = f.hash; path = f.path; label = f.label.now;
+  kind = f.kind;
+  parent = f.parent;
+  left = f.left;
+  right = f.right;
+  first = f.first;
+  last = f.last;
+  children = f.children;
+  descendants = f.descendants;
+  hash = f.hash;
+  path = f.path;
+  label = f.label.now;
 }

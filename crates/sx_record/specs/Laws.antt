@@ -38,7 +38,7 @@ front_path-again f rest fit =
     let behind_parent = f.step ∷ (to_be_bytes w32 f.count ++ behind_count) in
     let regrouped : (to_be_bytes w32 f.parent ++ ((f.step ∷ []) ++ (to_be_bytes w32 f.count ++ text_bytes f.name))) ++ rest ≡ to_be_bytes w32 f.parent ++ behind_parent = refl in
     ap front_path regrouped
-      ∙ rw (front_number_again w32 f.parent behind_parent (lit< tt) fit.fit_parent, front_number_again w32 f.count behind_count (lit< tt) fit.fit_count, front_text-again f.name rest fit.fit_name) refl
+    ∙ rw (front_number_again w32 f.parent behind_parent (lit< tt) fit.fit_parent, front_number_again w32 f.count behind_count (lit< tt) fit.fit_count, front_text-again f.name rest fit.fit_name) refl
 
 -- ---- paths with the same fields are equal
 
@@ -71,7 +71,7 @@ path-fits r is =
 pub path-one_spelling : (a b : PathRecord) (x y : List ℕ) → IsPath a → IsPath b → path_bytes (path_fields a) ++ x ≡ path_bytes (path_fields b) ++ y → (a ≡ b) × (x ≡ y)
 path-one_spelling a b x y a_is b_is e =
     let read : some (path_fields a, x) ≡ some (path_fields b, y) =
-        sym (front_path-again (path_fields a) x (path-fits a a_is)) ∙ ap front_path e ∙ front_path-again (path_fields b) y (path-fits b b_is) in
+    sym (front_path-again (path_fields a) x (path-fits a a_is)) ∙ ap front_path e ∙ front_path-again (path_fields b) y (path-fits b b_is) in
     let both = some_is (path_fields a, x) (path_fields b, y) read in
     (path-same a b (ap (λ (f : PathFields × List ℕ). f.0) both), ap (λ (f : PathFields × List ℕ). f.1) both)
 
@@ -181,21 +181,21 @@ node_equal a b links rest labels =
 node-same : (a b : NodeRecord) → node_fields a ≡ node_fields b → a ≡ b
 node-same a b e =
     node_equal a b
-      (record {
-        same_parent = link-same a.parent b.parent a.parent_fits b.parent_fits (ap (λ (f : NodeFields). f.parent) e);
-        same_left = link-same a.left b.left a.left_fits b.left_fits (ap (λ (f : NodeFields). f.left) e);
-        same_right = link-same a.right b.right a.right_fits b.right_fits (ap (λ (f : NodeFields). f.right) e);
-        same_first = link-same a.first b.first a.first_fits b.first_fits (ap (λ (f : NodeFields). f.first) e);
-        same_last = link-same a.last b.last a.last_fits b.last_fits (ap (λ (f : NodeFields). f.last) e);
-      })
-      (record {
-        same_kind = kind-same a.kind b.kind (ap (λ (f : NodeFields). f.kind) e);
-        same_children = ap (λ (f : NodeFields). f.children) e;
-        same_descendants = ap (λ (f : NodeFields). f.descendants) e;
-        same_hash = ap (λ (f : NodeFields). f.hash) e;
-        same_path = ap (λ (f : NodeFields). f.path) e;
-      })
-      (ap (λ (f : NodeFields). f.label) e)
+    (record {
+      same_parent = link-same a.parent b.parent a.parent_fits b.parent_fits (ap (λ (f : NodeFields). f.parent) e);
+      same_left = link-same a.left b.left a.left_fits b.left_fits (ap (λ (f : NodeFields). f.left) e);
+      same_right = link-same a.right b.right a.right_fits b.right_fits (ap (λ (f : NodeFields). f.right) e);
+      same_first = link-same a.first b.first a.first_fits b.first_fits (ap (λ (f : NodeFields). f.first) e);
+      same_last = link-same a.last b.last a.last_fits b.last_fits (ap (λ (f : NodeFields). f.last) e);
+    })
+    (record {
+      same_kind = kind-same a.kind b.kind (ap (λ (f : NodeFields). f.kind) e);
+      same_children = ap (λ (f : NodeFields). f.children) e;
+      same_descendants = ap (λ (f : NodeFields). f.descendants) e;
+      same_hash = ap (λ (f : NodeFields). f.hash) e;
+      same_path = ap (λ (f : NodeFields). f.path) e;
+    })
+    (ap (λ (f : NodeFields). f.label) e)
 
 record FitNode (f : NodeFields) : Type 0 where
   fit_parent : f.parent < 2 ^ 32
@@ -240,18 +240,23 @@ front_node-again f rest fit =
     let b1 = to_be_bytes w32 f.parent ++ b2 in
     let regrouped : node_bytes f ++ rest ≡ f.kind ∷ b1 = refl in
     ap front_node regrouped
-      ∙ rw (
-        front_number_again w32 f.parent b2 (lit< tt) fit.fit_parent, front_number_again w32 f.left b3 (lit< tt) fit.fit_left,
-        front_number_again w32 f.right b4 (lit< tt) fit.fit_right, front_number_again w32 f.first b5 (lit< tt) fit.fit_first,
-        front_number_again w32 f.last b6 (lit< tt) fit.fit_last, front_number_again w32 f.children b7 (lit< tt) fit.fit_children,
-        front_number_again w32 f.descendants b8 (lit< tt) fit.fit_descendants, front_number_again w128 f.hash b9 (lit< tt) fit.fit_hash,
-        front_number_again w32 f.path b10 (lit< tt) fit.fit_path, front_text-again f.label rest fit.fit_label
-      ) refl
+    ∙ rw (
+      front_number_again w32 f.parent b2 (lit< tt) fit.fit_parent,
+      front_number_again w32 f.left b3 (lit< tt) fit.fit_left,
+      front_number_again w32 f.right b4 (lit< tt) fit.fit_right,
+      front_number_again w32 f.first b5 (lit< tt) fit.fit_first,
+      front_number_again w32 f.last b6 (lit< tt) fit.fit_last,
+      front_number_again w32 f.children b7 (lit< tt) fit.fit_children,
+      front_number_again w32 f.descendants b8 (lit< tt) fit.fit_descendants,
+      front_number_again w128 f.hash b9 (lit< tt) fit.fit_hash,
+      front_number_again w32 f.path b10 (lit< tt) fit.fit_path,
+      front_text-again f.label rest fit.fit_label,
+    ) refl
 
 pub node-one_spelling : (a b : NodeRecord) (x y : List ℕ) → IsNode a → IsNode b → node_bytes (node_fields a) ++ x ≡ node_bytes (node_fields b) ++ y → (a ≡ b) × (x ≡ y)
 node-one_spelling a b x y a_is b_is e =
     let read : some (node_fields a, x) ≡ some (node_fields b, y) =
-        sym (front_node-again (node_fields a) x (node-fits a a_is)) ∙ ap front_node e ∙ front_node-again (node_fields b) y (node-fits b b_is) in
+    sym (front_node-again (node_fields a) x (node-fits a a_is)) ∙ ap front_node e ∙ front_node-again (node_fields b) y (node-fits b b_is) in
     let both = some_is (node_fields a, x) (node_fields b, y) read in
     (node-same a b (ap (λ (f : NodeFields × List ℕ). f.0) both), ap (λ (f : NodeFields × List ℕ). f.1) both)
 

@@ -31,7 +31,19 @@ front_node bytes = do
   hash ← front_number w128 descendants.1
   path ← front_number w32 hash.1
   label ← front_text path.1
-  Some (record {
-    kind = kind.0; parent = parent.0; left = left.0; right = right.0; first = first.0; last = last.0;
-    children = children.0; descendants = descendants.0; hash = hash.0; path = path.0; label = label.0;
-  }, label.1)
+  Some (
+    record {
+      kind = kind.0;
+      parent = parent.0;
+      left = left.0;
+      right = right.0;
+      first = first.0;
+      last = last.0;
+      children = children.0;
+      descendants = descendants.0;
+      hash = hash.0;
+      path = path.0;
+      label = label.0;
+    },
+    label.1,
+  )
