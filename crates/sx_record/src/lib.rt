@@ -7,3 +7,6 @@ mod record;
 mod text;
 
 pub use record::Record;
+
+#[cfg(test)]
+mod tests;

@@ -11,3 +11,6 @@ pub use fault::{Fault, QueryFault};
 pub use mem_records::MemRecords;
 pub use records::{Records, RecordsMut};
 pub use refs::Refs;
+
+#[cfg(test)]
+mod tests;
