@@ -1,3 +1,5 @@
 pub mod NumberStates
 pub mod NumberFronts
 pub mod NameLists
+pub mod MemberLists
+pub mod ValueTrees

@@ -1,5 +1,5 @@
 -- What an index of names keeps, from name to name.
-use Rattle.std.proofs.Common.{◌≡◌, ℕ, zero, suc, ◌<◌, ◌⊎◌, inl, inr, List, [], ◌∷◌, ◌++◌, refl, ap, sym, ◌∙◌, subst, length, get_or, Bool, true, false, Option, Some, None, IfSome, IfNone, Contains, String, slice_get}
+use Rattle.std.proofs.Common.{◌≡◌, ℕ, zero, suc, ◌⊎◌, inl, inr, List, [], ◌∷◌, ◌++◌, refl, ap, sym, ◌∙◌, subst, length, Bool, true, false, Option, Some, None, IfSome, IfNone, Contains, String, slice_get}
 use Rattle.std.proofs.lemmas.Option.{slice_get_within, get_or_from_slice_get, slice_get-get_or}
 use Rattle.std.proofs.lemmas.Slice.Eq.{bytes_eq-Decides}
 use Rattle.std.specs.declared.alloc.Global.{Global}
@@ -55,21 +55,22 @@ pub AreIndexed-push : (names : List (List ℕ)) (old new : BTreeMap (String Glob
     → ((q : List ℕ) → get_by_text new q ≡ update bytes_eq (get_by_text old) name (Some (length names)) q) → AreIndexed (names ++ name ∷ []) new
 AreIndexed-push names old new name ix other updates = (
   λ q i e. elim (same_or_not name q) as (λ _. slice_get (names ++ name ∷ []) i ≡ Some q) [
-    inl same ↦
-      let f : Some (length names) ≡ Some i = sym (updates q ∙ rw same.0 refl) ∙ e in
-      let at_end : length names ≡ i = cc in
-      subst (λ k. slice_get (names ++ name ∷ []) k ≡ Some q) at_end (slice_get_last names name ∙ ap Some same.1)
-  | inr apart ↦
-      let f : get_by_text old q ≡ Some i = sym (updates q ∙ rw apart.0 refl) ∙ e in
-      slice_get_kept names name q i (ix.0 q i f)
+    | inl same ↦
+        let f : Some (length names) ≡ Some i = sym (updates q ∙ rw same.0 refl) ∙ e in
+        let at_end : length names ≡ i = cc in
+        subst (λ k. slice_get (names ++ name ∷ []) k ≡ Some q) at_end (slice_get_last names name ∙ ap Some same.1)
+    | inr apart ↦
+        let f : get_by_text old q ≡ Some i = sym (updates q ∙ rw apart.0 refl) ∙ e in
+        slice_get_kept names name q i (ix.0 q i f)
   ],
   λ q i e. elim (slice_get-push names name q i e) as (λ _. get_by_text new q ≡ Some i) [
-    inl there ↦ elim (same_or_not name q) as (λ _. get_by_text new q ≡ Some i) [
-        inl same ↦ absurd (other (Contains-slice_get names name i (there ∙ ap Some (sym same.1))))
+    | inl there ↦ elim (same_or_not name q) as (λ _. get_by_text new q ≡ Some i) [
+      | inl same ↦ absurd (other (Contains-slice_get names name i (there ∙ ap Some (sym same.1))))
       | inr apart ↦ updates q ∙ rw apart.0 (ix.1 q i there)
-      ]
-  | inr last ↦ elim (same_or_not name q) as (λ _. get_by_text new q ≡ Some i) [
-        inl same ↦ updates q ∙ rw same.0 (ap Some (sym last.0))
+    ]
+    | inr last ↦ elim (same_or_not name q) as (λ _. get_by_text new q ≡ Some i) [
+      | inl same ↦ updates q ∙ rw same.0 (ap Some (sym last.0))
       | inr apart ↦ absurd (apart.1 last.1)
-      ]
-  ])
+    ]
+  ],
+)

@@ -3,3 +3,7 @@ pub mod NumberState
 pub mod LiteralFault
 pub mod TextFault
 pub mod Names
+pub mod MemberFault
+pub mod Value
+pub mod formers
+pub mod Record

@@ -1,5 +1,5 @@
 -- Names of which no two are equal, and the index that finds one.
-use Rattle.std.specs.Prelude.{ℕ, ◌≡◌, List, String, Option, Some, slice_get}
+use Rattle.std.specs.Prelude.{ℕ, ◌≡◌, List, map, String, Some, slice_get}
 use Rattle.std.specs.declared.alloc.Global.{Global}
 use Rattle.std.specs.BTreeMap.{BTreeMap, get_by_text}
 
@@ -12,3 +12,7 @@ abbrev pub AreIndexed : List (List ℕ) → BTreeMap (String Global) ℕ → Typ
 AreIndexed names places =
     ((name : List ℕ) (i : ℕ) → get_by_text places name ≡ Some i → slice_get names i ≡ Some name)
     × ((name : List ℕ) (i : ℕ) → slice_get names i ≡ Some name → get_by_text places name ≡ Some i)
+
+-- the names of members
+abbrev pub names_of : {T : Type 0} → List (List ℕ × T) → List (List ℕ)
+names_of members = map (λ member. member.0) members

@@ -1,7 +1,11 @@
 //! The plain types of a JSON document (RFC 8259).
 #![tactic(auto)]
 
+pub mod bytes;
+pub mod json;
 pub mod literal;
+pub mod member_list;
 mod names;
 pub mod number;
+pub mod record;
 pub mod text;

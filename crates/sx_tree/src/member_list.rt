@@ -1,0 +1,106 @@
+//! Values under names of which no two are equal.
+ghost use Rattle.std.specs.Prelude.{◌≡◌, [], ◌∷◌, ◌++◌, Contains, IfErr, IfOk, OnErr, OnOk, length, map};
+ghost use Rattle.sx_tree.specs.Names.{AreDistinct, names_of};
+
+use crate::names::Names;
+use crate::text::Text;
+use std::alloc::{AllocError, Global};
+use std::marker::Model;
+use thiserror::Error;
+
+/// Why a member was not added.
+#[derive(Clone, Copy, Debug, PartialEq, Eq, Drop, Error)]
+pub enum MemberFault {
+    /// The member at this place, counted from 0, has the name. The place is 4,294,967,295 where it is
+    /// greater.
+    #[error("member {index} has the name")]
+    Taken { index: u32 },
+    #[error("out of memory")]
+    OutOfMemory,
+}
+
+/// Values in the order in which they came, each under a name that no other has.
+#[derive(Drop)]
+pub struct MemberList<T> {
+    names: Names,
+    values: Vec<T>,
+}
+
+impl<T> Model for MemberList<T> {
+    ghost use Rattle.std.specs.Prelude.{List, ℕ, ◌≡◌, length};
+    ghost use Rattle.std.specs.List.{zip};
+    ghost use Rattle.std.specs.Coded.{coded_list, coded×, coded_ℕ};
+
+    ghost Value = { List (List ℕ × T) };
+
+    ghost coded = { coded_list (coded× (coded_list coded_ℕ) T.code) };
+
+    ghost view = { λ m. zip m.names m.values.items };
+
+    ghost invariant = { λ m. length m.values.items ≡ length m.names };
+}
+
+impl<T> MemberList<T> {
+    /// No members.
+    pub fn new(alloc: Global) -> MemberList<T>
+        ensures { result ≡ [] }
+    {
+        MemberList {
+            names: Names::new(alloc),
+            values: Vec::new(alloc),
+        }
+    }
+
+    /// The names, in order.
+    pub fn names(&self) -> &[Text]
+        ensures same { result.now ≡ names_of self.now }
+        ensures distinct { AreDistinct (names_of self.now) }
+    {
+        self.names.as_slice()
+    }
+
+    /// The values, in order.
+    pub fn values(&self) -> &[T]
+        ensures same { result.now ≡ map (λ m. m.1) self.now }
+    {
+        self.values.as_slice()
+    }
+}
+
+impl<T: Drop> MemberList<T> {
+    ghost use Rattle.sx_tree.specs.MemberFault.{ExplainsMember};
+
+    /// Adds a member at the end.
+    ///
+    /// # Errors
+    ///
+    /// `Taken` where a member has the name; then `OutOfMemory`. A fault changes nothing.
+    pub fn push(&mut self, alloc: Global, name: Text, value: T) -> Result<(), MemberFault>
+        ensures ok { OnOk result (self.new ≡ self.old ++ (name, value) ∷ []) }
+        ensures new_name { OnOk result (Contains (names_of self.old) name → ⊥) }
+        ensures fault { IfErr result (ExplainsMember (names_of self.old) name) }
+        ensures err { OnErr result (self.new ≡ self.old) }
+    {
+        match self.names.find(&name) {
+            Some(place) => Err(MemberFault::Taken {
+                index: place.min(u32::MAX as usize) as u32,
+            }),
+            None => match self.push_new(alloc, name, value) {
+                Ok(()) => Ok(()),
+                Err(_) => Err(MemberFault::OutOfMemory),
+            },
+        }
+    }
+
+    /// Adds a member whose name no other has. A failure changes nothing.
+    fn push_new(&mut self, alloc: Global, name: Text, value: T) -> Result<(), AllocError>
+        requires { Contains (names_of self.old) name → ⊥ }
+        ensures ok { OnOk result (self.new ≡ self.old ++ (name, value) ∷ []) }
+        ensures err { OnErr result (self.new ≡ self.old) }
+    {
+        self.values.reserve(1)?;
+        self.names.push(alloc, name)?;
+        self.values.push_reserved(value);
+        Ok(())
+    }
+}

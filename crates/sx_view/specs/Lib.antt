@@ -1,0 +1,3 @@
+pub mod QueryFault
+pub mod Records
+pub mod Slots

@@ -1,0 +1,16 @@
+//! Records by their numbers: what reads them, what changes them, and why that can fail.
+#![tactic(auto)]
+
+mod fault;
+mod mem_records;
+mod records;
+mod refs;
+mod slots;
+
+pub use fault::{Fault, QueryFault};
+pub use mem_records::MemRecords;
+pub use records::{Records, RecordsMut};
+pub use refs::Refs;
+
+#[cfg(test)]
+mod tests;

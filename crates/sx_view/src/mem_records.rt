@@ -1,0 +1,109 @@
+//! Records in memory.
+ghost use Rattle.std.specs.Prelude.{◌≡◌, None, Some};
+ghost use Rattle.std.specs.FinMap as map;
+ghost use Rattle.sx_view.specs.Slots.{CanRewind, CanRewind-prop};
+
+use crate::slots::{Change, forget, put_noted, record_in, rewind};
+use crate::{Fault, Records, RecordsMut};
+use std::alloc::{AllocError, Global};
+use std::collections::BTreeMap;
+use sx_record::Record;
+
+/// Records in memory, which fail only for want of memory.
+#[derive(Drop)]
+pub struct MemRecords<R> {
+    alloc: Global,
+    /// While there is a mark, a record that is dropped leaves its slot empty.
+    slots: BTreeMap<u32, Option<R>>,
+    /// The changes since the mark, where there is one.
+    changes: Option<Vec<Change<R>>>,
+    gets: u64,
+    ghost can_rewind: { CanRewind slots changes } by { CanRewind-prop slots changes },
+}
+
+impl<R: Record> MemRecords<R> {
+    /// No record.
+    pub fn new(alloc: Global) -> MemRecords<R>
+        ensures told { ⟦<MemRecords<R> as Records<R>>⟧.told result ≡ Some map.empty }
+        ensures no_mark { ⟦<MemRecords<R> as RecordsMut<R>>⟧.marked result ≡ None }
+        ensures no_gets { ⟦<MemRecords<R> as Records<R>>⟧.gets result ≡ 0 }
+    {
+        MemRecords {
+            alloc,
+            slots: BTreeMap::new(alloc),
+            changes: None,
+            gets: 0,
+        }
+    }
+}
+
+impl<R: Record> Records<R> for MemRecords<R> {
+    ghost use Rattle.std.specs.Prelude.{◌≡◌, Some, refl};
+    ghost use Rattle.std.proofs.Common.{ap, ◌∙◌};
+    ghost use Rattle.sx_view.specs.Slots.{held, at_mark};
+
+    ghost told = { λ s. Some (held s.slots.entries) };
+
+    ghost gets = { λ s. s.gets };
+
+    ghost faults = { λ _. 0 };
+
+    ghost keeps = { λ a b. (held b.slots.entries ≡ held a.slots.entries) × (at_mark b.slots b.changes ≡ at_mark a.slots a.changes) };
+
+    ghost keeps_told = { λ a b kept. ap Some kept.0 };
+
+    ghost keeps_then = { λ a b c first second. (second.0 ∙ first.0, second.1 ∙ first.1) };
+
+    fn get(&mut self, alloc: Global, k: u32) -> Result<Option<R>, Fault> {
+        self.gets = self.gets.saturating_add(1);
+        match record_in(&self.slots, k) {
+            Some(there) => Ok(Some(there.copy(alloc)?)),
+            None => Ok(None),
+        }
+    }
+}
+
+impl<R: Record> RecordsMut<R> for MemRecords<R> {
+    ghost use Rattle.sx_view.specs.Slots.{at_mark};
+
+    ghost marked = { λ s. at_mark s.slots s.changes };
+
+    ghost keeps_mark = { λ a b kept. kept.1 };
+
+    fn put(&mut self, _alloc: Global, k: u32, value: R) -> Result<(), AllocError> {
+        match &mut self.changes {
+            Some(changes) => put_noted(&mut self.slots, changes, k, Some(value)),
+            None => {
+                self.slots.insert(k, Some(value))?;
+                Ok(())
+            }
+        }
+    }
+
+    fn drop_record(&mut self, _alloc: Global, k: u32) -> Result<(), AllocError> {
+        match &mut self.changes {
+            Some(changes) => put_noted(&mut self.slots, changes, k, None),
+            None => {
+                self.slots.remove(&k);
+                Ok(())
+            }
+        }
+    }
+
+    fn begin(&mut self) {
+        self.keep();
+        self.changes = Some(Vec::new(self.alloc));
+    }
+
+    fn undo(&mut self) {
+        if let Some(mut changes) = self.changes.take() {
+            rewind(&mut self.slots, &mut changes);
+        }
+    }
+
+    fn keep(&mut self) {
+        if let Some(mut changes) = self.changes.take() {
+            forget(&mut self.slots, &mut changes);
+        }
+    }
+}

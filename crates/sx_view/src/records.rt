@@ -1,0 +1,87 @@
+//! What reads records, and what changes them.
+ghost use Rattle.std.specs.Prelude.{◌≡◌, ◌+◌, ◌-◌, ◌^◌, ◌≤◌, Option, None, ℕ, min, IfOk, IfErr, IfSome, IsSome, OnErr, OnOk};
+ghost use Rattle.std.specs.Option.{option_map};
+ghost use Rattle.std.specs.FinMap as map;
+ghost use Rattle.sx_outside.specs.Faults.{Rose};
+ghost use Rattle.sx_view.specs.Records.{RecordMap, ExplainsFault};
+
+use crate::Fault;
+use std::alloc::{AllocError, Global};
+
+/// Records by their numbers.
+pub trait Records<R> {
+    /// Which number has which record, where the object tells it.
+    ghost told: { Self → Option (RecordMap R) };
+
+    /// How many gets were made. The count stands still at 2^64 - 1.
+    ghost gets: { Self → ℕ };
+
+    /// How often the object below failed. The count stands still at 2^64 - 1.
+    ghost faults: { Self → ℕ };
+
+    /// What a call that reads leaves: all that the object tells, through whichever of its traits.
+    ghost keeps: { Self → Self → Type 0 };
+
+    /// The record of the number. None where there is none.
+    ///
+    /// # Errors
+    ///
+    /// `Failed` only where the faults of the object below rose; `Damaged` only where the records are not told;
+    /// `OutOfMemory`.
+    fn get(&mut self, alloc: Global, k: u32) -> Result<Option<R>, Fault>
+        ensures found { IfOk result (λ found. IfSome (told self.old) (λ records. found ≡ map.get records k)) }
+        ensures fault { IfErr result (ExplainsFault (told self.old) (Rose (faults self.old) (faults self.new))) }
+        ensures counted { gets self.new ≡ min (gets self.old + 1) (2 ^ 64 - 1) }
+        ensures never_falls { faults self.old ≤ faults self.new }
+        ensures keeps { keeps self.old self.new };
+
+    ghost keeps_told: { (a b : Self) → keeps a b → told b ≡ told a };
+
+    ghost keeps_then: { (a b c : Self) → keeps a b → keeps b c → keeps a c };
+}
+
+/// Records that can be changed, and changed back to how they were at a mark.
+pub trait RecordsMut<R>: Records<R> {
+    /// The records at the mark, where there is one.
+    ghost marked: { Self → Option (RecordMap R) };
+
+    /// Gives the number the record, instead of one that it had. Where memory runs out nothing is changed.
+    fn put(&mut self, alloc: Global, k: u32, value: R) -> Result<(), AllocError>
+        ensures ok { OnOk result (Self.told self.new ≡ option_map (λ records. map.insert records k value) (Self.told self.old)) }
+        ensures err { OnErr result (Self.told self.new ≡ Self.told self.old) }
+        ensures same_mark { marked self.new ≡ marked self.old }
+        ensures same_gets { Self.gets self.new ≡ Self.gets self.old }
+        ensures never_falls { Self.faults self.old ≤ Self.faults self.new };
+
+    /// Takes away the record of the number, where there is one. Where memory runs out nothing is changed.
+    fn drop_record(&mut self, alloc: Global, k: u32) -> Result<(), AllocError>
+        ensures ok { OnOk result (Self.told self.new ≡ option_map (λ records. map.remove records k) (Self.told self.old)) }
+        ensures err { OnErr result (Self.told self.new ≡ Self.told self.old) }
+        ensures same_mark { marked self.new ≡ marked self.old }
+        ensures same_gets { Self.gets self.new ≡ Self.gets self.old }
+        ensures never_falls { Self.faults self.old ≤ Self.faults self.new };
+
+    /// Marks the records as they are, instead of an earlier mark.
+    fn begin(&mut self)
+        ensures marked { marked self.new ≡ Self.told self.old }
+        ensures same { Self.told self.new ≡ Self.told self.old }
+        ensures same_gets { Self.gets self.new ≡ Self.gets self.old }
+        ensures never_falls { Self.faults self.old ≤ Self.faults self.new };
+
+    /// Restores the records at the mark, and drops it.
+    fn undo(&mut self)
+        requires { IsSome (marked self.old) }
+        ensures restored { Self.told self.new ≡ marked self.old }
+        ensures no_mark { marked self.new ≡ None }
+        ensures same_gets { Self.gets self.new ≡ Self.gets self.old }
+        ensures never_falls { Self.faults self.old ≤ Self.faults self.new };
+
+    /// Drops the mark.
+    fn keep(&mut self)
+        ensures same { Self.told self.new ≡ Self.told self.old }
+        ensures no_mark { marked self.new ≡ None }
+        ensures same_gets { Self.gets self.new ≡ Self.gets self.old }
+        ensures never_falls { Self.faults self.old ≤ Self.faults self.new };
+
+    ghost keeps_mark: { (a b : Self) → Self.keeps a b → marked b ≡ marked a };
+}
