@@ -1,1 +1,4 @@
 pub mod Writing
+pub mod Units
+pub mod StringShapes
+pub mod Results

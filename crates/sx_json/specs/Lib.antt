@@ -1,1 +1,5 @@
 pub mod Canonical
+pub mod Strings
+pub mod Reading
+pub mod Piece
+pub mod Grammar

@@ -1,5 +1,5 @@
 //! Values under names of which no two are equal.
-ghost use Rattle.std.specs.Prelude.{◌≡◌, [], ◌∷◌, ◌++◌, Contains, IfErr, IfOk, OnErr, OnOk, length, map};
+ghost use Rattle.std.specs.Prelude.{◌≡◌, [], ◌∷◌, ◌++◌, Contains, IfErr, IfNone, IfOk, IfSome, OnErr, OnOk, length, map, slice_get};
 ghost use Rattle.sx_tree.specs.Names.{AreDistinct, names_of};
 
 use crate::names::Names;
@@ -57,6 +57,14 @@ impl<T> MemberList<T> {
         ensures distinct { AreDistinct (names_of self.now) }
     {
         self.names.as_slice()
+    }
+
+    /// The place of the member with the name.
+    pub fn find(&self, name: &Text) -> Option<usize>
+        ensures found { IfSome result (λ place. slice_get (names_of self.now) place ≡ Some name.now) }
+        ensures none { IfNone result (Contains (names_of self.now) name.now → ⊥) }
+    {
+        self.names.find(name)
     }
 
     /// The values, in order.

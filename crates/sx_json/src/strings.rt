@@ -1,0 +1,254 @@
+//! Reads a string behind its opening quote (RFC 8259 section 7).
+ghost use Rattle.std.specs.Prelude.{◌≡◌, ◌≤◌, ◌<◌, ◌⊎◌, ℕ, [], ◌∷◌, ◌++◌, List, IfOk, IfErr, IfSome, MatchOption, OnOk, OnErr, encode_utf8, length};
+ghost use Rattle.sx_json.specs.Strings.{IsShortEscape, IsHexDigit, IsHighSurrogate, IsLowSurrogate, IsText, pair_char};
+ghost use Rattle.sx_json.specs.Piece.{IsPiece};
+ghost use Rattle.sx_json.specs.Reading.{DigitAt, Leads, NoDigit, NoLow, NoPair, NoText, ReadsLow, ReadsPair, ReadsText, Refuses, NoString, NoUnit, ReadsUnit};
+
+use crate::fault::JsonFault;
+use std::alloc::{AllocError, Global};
+use sx_tree::bytes::Bytes;
+use sx_tree::text::{TEXT_BYTES, Text, TextFault};
+
+/// The place of the rest in a text with this end.
+pub(crate) fn place(end: usize, rest: &[u8]) -> u64 {
+    end.saturating_sub(rest.len()) as u64
+}
+
+/// The value of a hexadecimal digit.
+fn hex_value(byte: u8) -> Option<u32>
+    ensures small { IfSome result (λ value. value < 16) }
+    ensures value { MatchOption result ((digit : ℕ) → IsHexDigit byte digit → ⊥) (IsHexDigit byte) }
+{
+    match byte {
+        b'0'..=b'9' => Some(u32::from(byte - b'0')),
+        b'A'..=b'F' => Some(u32::from(byte - b'A') + 10),
+        b'a'..=b'f' => Some(u32::from(byte - b'a') + 10),
+        _ => None,
+    }
+}
+
+/// A hexadecimal digit at the front of the bytes, and the rest.
+fn digit_at(end: usize, bytes: &[u8]) -> Result<(u32, &[u8]), JsonFault>
+    ensures small { IfOk result (λ p. p.0 < 16) }
+    ensures ok { IfOk result (λ p. DigitAt bytes.now p.0 p.1.now) }
+    ensures err { IfErr result (λ _. NoDigit bytes.now) }
+{
+    let Some((byte, left)) = bytes.split_first() else {
+        return Err(JsonFault::Ended);
+    };
+    match hex_value(*byte) {
+        Some(value) => Ok((value, left)),
+        None => Err(JsonFault::BadByte {
+            at: place(end, bytes),
+        }),
+    }
+}
+
+/// Four hexadecimal digits at the front of the bytes, and the rest.
+fn unit_at(end: usize, bytes: &[u8]) -> Result<(u32, &[u8]), JsonFault>
+    ensures small { IfOk result (λ p. p.0 < 65536) }
+    ensures shorter { IfOk result (λ p. length p.1.now < length bytes.now) }
+    ensures ok { IfOk result (λ p. ReadsUnit bytes.now p.0 p.1.now) }
+    ensures err { IfErr result (λ _. NoUnit bytes.now) }
+{
+    let (x, after_x) = digit_at(end, bytes)?;
+    let (y, after_y) = digit_at(end, after_x)?;
+    let (z, after_z) = digit_at(end, after_y)?;
+    let (w, left) = digit_at(end, after_z)?;
+    Ok((((x * 16 + y) * 16 + z) * 16 + w, left))
+}
+
+/// The byte that the letter behind a backslash stands for.
+fn short_escape(letter: u8) -> Option<u8>
+    ensures ascii { IfSome result (λ byte. byte < 128) }
+    ensures value { MatchOption result ((byte : ℕ) → IsShortEscape letter byte → ⊥) (IsShortEscape letter) }
+    ensures same { IfSome result (λ byte. (other : ℕ) → IsShortEscape letter other → other ≡ byte) }
+{
+    match letter {
+        b'"' | b'\\' | b'/' => Some(letter),
+        b'b' => Some(0x08),
+        b'f' => Some(0x0c),
+        b'n' => Some(b'\n'),
+        b'r' => Some(b'\r'),
+        b't' => Some(b'\t'),
+        _ => None,
+    }
+}
+
+/// The low surrogate whose escape stands at the front of the bytes, and the rest. The high one's escape
+/// began at `start`.
+fn low_at(end: usize, start: u64, bytes: &[u8]) -> Result<(u32, &[u8]), JsonFault>
+    ensures range { IfOk result (λ p. IsLowSurrogate p.0) }
+    ensures shorter { IfOk result (λ p. length p.1.now < length bytes.now) }
+    ensures ok { IfOk result (λ p. ReadsLow bytes.now p.0 p.1.now) }
+    ensures err { IfErr result (λ _. NoLow bytes.now) }
+{
+    let Some((backslash, behind)) = bytes.split_first() else {
+        return Err(JsonFault::Ended);
+    };
+    if *backslash != b'\\' {
+        return Err(JsonFault::LoneSurrogate { at: start });
+    }
+    let Some((letter, middle)) = behind.split_first() else {
+        return Err(JsonFault::Ended);
+    };
+    if *letter != b'u' {
+        return Err(not_unicode(end, start, behind, *letter));
+    }
+    let (low, left) = unit_at(end, middle)?;
+    if low < 0xDC00 || low > 0xDFFF {
+        return Err(JsonFault::LoneSurrogate { at: start });
+    }
+    Ok((low, left))
+}
+
+/// The fault where another escape than `u` stands behind a high surrogate, or none.
+fn not_unicode(end: usize, start: u64, bytes: &[u8], letter: u8) -> JsonFault {
+    match short_escape(letter) {
+        Some(_) => JsonFault::LoneSurrogate { at: start },
+        None => JsonFault::BadByte {
+            at: place(end, bytes),
+        },
+    }
+}
+
+/// The character of a high and a low surrogate in a row.
+fn pair_of(high: u32, low: u32) -> char
+    requires high { IsHighSurrogate high }
+    requires low { IsLowSurrogate low }
+    ensures { result ≡ pair_char high low }
+{
+    char::from_u32(0x10000 + (high - 0xD800) * 0x400 + (low - 0xDC00)).unwrap()
+}
+
+/// The character of a surrogate and the escape behind it, and the rest. The surrogate's escape began at
+/// `start`.
+fn surrogates_at(
+    end: usize,
+    start: u64,
+    unit: u32,
+    bytes: &[u8],
+) -> Result<(char, &[u8]), JsonFault>
+    requires { (0xD800 ≤ unit) × (unit ≤ 0xDFFF) }
+    ensures shorter { IfOk result (λ p. length p.1.now < length bytes.now) }
+    ensures ok { IfOk result (λ p. ReadsPair bytes.now unit p.0 p.1.now) }
+    ensures err { IfErr result (λ _. NoPair bytes.now unit) }
+{
+    if unit > 0xDBFF {
+        return Err(JsonFault::LoneSurrogate { at: start });
+    }
+    let (low, after) = low_at(end, start, bytes)?;
+    Ok((pair_of(unit, low), after))
+}
+
+/// The character of four digits behind `\u`, with the low surrogate's escape behind them where they are
+/// a high one, and the rest. The backslash stands at `start`.
+fn unicode_at(end: usize, start: u64, bytes: &[u8]) -> Result<(char, &[u8]), JsonFault>
+    ensures shorter { IfOk result (λ p. length p.1.now < length bytes.now) }
+    ensures ok { IfOk result (λ p. Leads (92 ∷ 117 ∷ bytes.now) (encode_utf8 p.0) p.1.now) }
+    ensures err { IfErr result (λ _. NoString (92 ∷ 117 ∷ bytes.now)) }
+{
+    let (unit, left) = unit_at(end, bytes)?;
+    match char::from_u32(unit) {
+        Some(character) => Ok((character, left)),
+        None => surrogates_at(end, start, unit, left),
+    }
+}
+
+/// The character of an escape behind its backslash, which stands at `start`, and the rest.
+fn escape_at(end: usize, start: u64, bytes: &[u8]) -> Result<(char, &[u8]), JsonFault>
+    ensures shorter { IfOk result (λ p. length p.1.now < length bytes.now) }
+    ensures ok { IfOk result (λ p. Leads (92 ∷ bytes.now) (encode_utf8 p.0) p.1.now) }
+    ensures err { IfErr result (λ _. NoString (92 ∷ bytes.now)) }
+{
+    let Some((letter, left)) = bytes.split_first() else {
+        return Err(JsonFault::Ended);
+    };
+    if *letter == b'u' {
+        return unicode_at(end, start, left);
+    }
+    match short_escape(*letter) {
+        Some(byte) => Ok((char::from(byte), left)),
+        None => Err(JsonFault::BadByte {
+            at: place(end, bytes),
+        }),
+    }
+}
+
+/// Adds a character in UTF-8.
+fn push_char(content: &mut Bytes, character: char) -> Result<(), AllocError>
+    ensures { OnOk result (content.new ≡ content.old ++ encode_utf8 character) }
+{
+    let mut room = [0; 4];
+    let text = character.encode_utf8(&mut room);
+    content.extend_from_slice(text.as_bytes())
+}
+
+/// How a string goes on.
+pub(crate) enum Piece<'a> {
+    /// It ends, and this is left.
+    Closed(&'a [u8]),
+    /// Behind one byte or escape.
+    More(&'a [u8]),
+}
+
+/// Takes a byte or an escape of a string, and adds what it stands for to the content.
+fn piece_at<'a>(end: usize, bytes: &'a [u8], content: &mut Bytes) -> Result<Piece<'a>, JsonFault>
+    ensures ok { IfOk result (IsPiece bytes.now content.old content.new) }
+    ensures err { IfErr result (Refuses (NoString bytes.now)) }
+{
+    let Some((byte, after)) = bytes.split_first() else {
+        return Err(JsonFault::Ended);
+    };
+    match *byte {
+        b'"' => Ok(Piece::Closed(after)),
+        b'\\' => {
+            let (character, left) = escape_at(end, place(end, bytes), after)?;
+            push_char(content, character)?;
+            Ok(Piece::More(left))
+        }
+        0x00..0x20 => Err(JsonFault::BadByte {
+            at: place(end, bytes),
+        }),
+        _ => {
+            content.push(*byte)?;
+            Ok(Piece::More(after))
+        }
+    }
+}
+
+/// The text of a string's content. The string's opening quote stands at `start`.
+fn text_of(alloc: Global, start: u64, content: &Bytes) -> Result<Text, JsonFault>
+    ensures ok { IfOk result (λ text. (text ≡ content.now) × IsText content.now) }
+    ensures err { IfErr result (Refuses (IsText content.now → ⊥)) }
+{
+    match Text::new(alloc, content.as_slice()) {
+        Ok(text) => Ok(text),
+        Err(TextFault::NotUtf8 { .. }) => Err(JsonFault::BadByte { at: start }),
+        Err(TextFault::TooLong { .. }) => Err(JsonFault::StringTooLong { at: start }),
+        Err(TextFault::OutOfMemory) => Err(JsonFault::OutOfMemory),
+    }
+}
+
+/// The string behind its opening quote, and the rest.
+pub(crate) fn string_at(alloc: Global, end: usize, bytes: &[u8]) -> Result<(Text, &[u8]), JsonFault>
+    ensures shorter { IfOk result (λ p. length p.1.now < length bytes.now) }
+    ensures ok { IfOk result (λ p. ReadsText bytes.now p.0 p.1.now) }
+    ensures err { IfErr result (Refuses (NoText bytes.now)) }
+{
+    let start = place(end, bytes).saturating_sub(1);
+    let mut content = Bytes::new(alloc);
+    let mut left = bytes;
+    loop {
+        match piece_at(end, left, &mut content)? {
+            Piece::Closed(after) => {
+                let text = text_of(alloc, start, &content)?;
+                return Ok((text, after));
+            }
+            Piece::More(after) => left = after,
+        }
+        if content.len() > TEXT_BYTES {
+            return Err(JsonFault::StringTooLong { at: start });
+        }
+    }
+}
