@@ -1,170 +1,226 @@
-use crate::run::{Failing, NONE, run, run_words};
+use crate::run::{Failing, NONE, Ran, run, run_words};
+use std::alloc::Global;
+use std::process::Abort;
+use std::sync::Wait;
 use std::test::Fail;
 use sx_outside::{ListClock, StillClock};
 use sx_shell::Status;
 
-const FIRST: &[u8] = b"load 7\ncommit\nopen 1\ntext 0\n";
+// Over an empty volume, with a clock that stands at 1000, the script has these replies, in whatever pieces it comes.
+fn replies<R: Abort + Wait>(rt: &R, alloc: Global, script: &[u8], want: &[u8]) -> Result<(), Fail> {
+    replies_in_pieces(rt, alloc, script, 1, want)?;
+    replies_in_pieces(rt, alloc, script, 5000, want)
+}
 
-// Scripts and their replies, in which the clock stands at 1000.
-const REPLIES: [(&[u8], &[u8]); 12] = [
-    (b"", b""),
-    (b"\n \t\r\n# load 7\n\r", b""),
-    (FIRST, b"ok 1\nok 1 1000\nok 1\nok 7\n"),
-    (b"open 0\r\ntext 0", b"ok 0\nok empty\n"),
-    (
-        b"load 7\ncommit\nopen 2\nopen 4294967295\n",
-        b"ok 1\nok 1 1000\nrefused Missing 2 1\nrefused Missing 4294967295 1\n",
-    ),
-    (
-        b"load 7\nload -0\ncommit\nload 8\nopen 1\ntext 0\ncommit\ntext 0\nopen 2\ntext 0\nopen 0\ntext 0\n",
-        b"ok 1\nok 2\nok 1 1000\nok 3\nok 1\nok -0\nok 2 1000\nok -0\nok 2\nok 8\nok 0\nok empty\n",
-    ),
-    (
-        b"commit\ncommit\nopen 2\ntext 0",
-        b"ok 1 1000\nok 2 1000\nok 2\nok empty\n",
-    ),
-    (
-        b"load 0\nload 1.50e+3\nload -12E-7\nload 10.25\nload 0e0\n",
-        b"ok 1\nok 2\nok 3\nok 4\nok 5\n",
-    ),
-    (
-        b"load 01\nload +1\nload 1.\nload .5\nload 1e\nload -\nload\nload \nload  1\nload 1 \nload 1\r\r\n",
-        b"refused line\nrefused line\nrefused line\nrefused line\nrefused line\nrefused line\nrefused line\nrefused line\nrefused line\nrefused line\nrefused line\n",
-    ),
-    (
-        b"open -1\nopen 01\nopen +1\nopen 4294967296\nopen \nopen 1 \n",
-        b"refused line\nrefused line\nrefused line\nrefused line\nrefused line\nrefused line\n",
-    ),
-    (
-        b"frob\ncommit now\nCommit\ntext 1\ntext 00\n load 7\nset 1 []\n\x80\n",
-        b"refused line\nrefused line\nrefused line\nrefused line\nrefused line\nrefused line\nrefused line\nrefused line\n",
-    ),
-    (
-        b"load 1111111111111111111111111111111111111111111111111111111111111111\nload 11111111111111111111111111111111111111111111111111111111111111111\n",
-        b"ok 1\nrefused line\n",
-    ),
-];
-
-#[test]
-fn replies_are_these(rt: HostRuntime) -> Result<(), Fail> {
-    let alloc = rt.alloc();
-    for (script, replies) in REPLIES {
-        for most in [1, 5000] {
-            let mut clock = StillClock { moment: 1000 };
-            let ran = run(&rt, alloc, b"", script, most, NONE, &mut clock)?;
-            assert_eq!(rt; ran.status, Status::Done);
-            assert_eq!(rt; ran.output.as_slice(), replies);
-        }
-    }
+fn replies_in_pieces<R: Abort + Wait>(
+    rt: &R,
+    alloc: Global,
+    script: &[u8],
+    most: usize,
+    want: &[u8],
+) -> Result<(), Fail> {
+    let ran = still(rt, alloc, b"", script, most, NONE)?;
+    assert_eq!(rt; ran.status, Status::Done);
+    assert_eq!(rt; ran.output.as_slice(), want);
     Ok(())
 }
 
+// A run with a clock that stands at 1000.
+fn still<R: Wait>(
+    rt: &R,
+    alloc: Global,
+    start: &[u8],
+    script: &[u8],
+    most: usize,
+    failing: Failing,
+) -> Result<Ran, Fail> {
+    let mut clock = StillClock { moment: 1000 };
+    Ok(run(rt, alloc, start, script, most, failing, &mut clock)?)
+}
+
+fn ends<R: Abort>(rt: &R, ran: &Ran, status: Status, want: &[u8]) {
+    assert_eq!(rt; ran.status, status);
+    assert_eq!(rt; ran.output.as_slice(), want);
+}
+
+const FIRST: &[u8] = b"load 7\ncommit\nopen 1\ntext 0\n";
+
 #[test]
-fn a_long_line_is_refused_whole(rt: HostRuntime) -> Result<(), Fail> {
-    let alloc = rt.alloc();
-    for (len, replies) in [
-        (1024, b"ok 0\n".as_slice()),
-        (1025, b"refused line\nok 0\n"),
-        (9000, b"refused line\nok 0\n"),
-    ] {
-        let mut script = vec![in alloc; b' '; len]?;
-        script.extend_from_slice(b"\nopen 0\n")?;
-        let mut clock = StillClock { moment: 1000 };
-        let ran = run(&rt, alloc, b"", &script, 700, NONE, &mut clock)?;
-        assert_eq!(rt; ran.output.as_slice(), replies);
-    }
-    Ok(())
+fn revisions_are_read(rt: HostRuntime) -> Result<(), Fail> {
+    replies(&rt, rt.alloc(), b"", b"")?;
+    replies(&rt, rt.alloc(), b"\n \t\r\n# load 7\n\r", b"")?;
+    replies(&rt, rt.alloc(), FIRST, b"ok 1\nok 1 1000\nok 1\nok 7\n")?;
+    replies(&rt, rt.alloc(), b"open 0\r\ntext 0", b"ok 0\nok empty\n")?;
+    replies(
+        &rt,
+        rt.alloc(),
+        b"commit\nopen 1\ntext 0",
+        b"ok 1 1000\nok 1\nok empty\n",
+    )?;
+    replies(
+        &rt,
+        rt.alloc(),
+        b"load 7\ncommit\nopen 2\n",
+        b"ok 1\nok 1 1000\nrefused Missing 2 1\n",
+    )?;
+    replies(
+        &rt,
+        rt.alloc(),
+        b"load 7\nload -0\ncommit\nload 8\nopen 1\ntext 0",
+        b"ok 1\nok 2\nok 1 1000\nok 3\nok 1\nok -0\n",
+    )?;
+    replies(
+        &rt,
+        rt.alloc(),
+        b"load 7\ncommit\nload 8\ncommit\nopen 2\ntext 0\nopen 1\ntext 0",
+        b"ok 1\nok 1 1000\nok 2\nok 2 1000\nok 2\nok 8\nok 1\nok 7\n",
+    )
+}
+
+#[test]
+fn numbers_are_those_of_the_grammar(rt: HostRuntime) -> Result<(), Fail> {
+    replies(
+        &rt,
+        rt.alloc(),
+        b"load 0\nload 1.50e+3\nload -12E-7\nload 0e0",
+        b"ok 1\nok 2\nok 3\nok 4\n",
+    )?;
+    replies(&rt, rt.alloc(), b"load 01", b"refused line\n")?;
+    replies(&rt, rt.alloc(), b"load +1", b"refused line\n")?;
+    replies(&rt, rt.alloc(), b"load 1.", b"refused line\n")?;
+    replies(&rt, rt.alloc(), b"load .5", b"refused line\n")?;
+    replies(&rt, rt.alloc(), b"load 1e", b"refused line\n")?;
+    replies(&rt, rt.alloc(), b"load -", b"refused line\n")?;
+    let mut digits = b"load ".to_vec(rt.alloc())?;
+    digits.extend_from_slice(vec![in rt.alloc(); b'1'; 64]?.as_slice())?;
+    replies(&rt, rt.alloc(), &digits, b"ok 1\n")?;
+    digits.push(b'1')?;
+    replies(&rt, rt.alloc(), &digits, b"refused line\n")
+}
+
+#[test]
+fn other_lines_are_refused(rt: HostRuntime) -> Result<(), Fail> {
+    replies(
+        &rt,
+        rt.alloc(),
+        b"load\nload \nload  1\nload 1 \n load 1",
+        b"refused line\nrefused line\nrefused line\nrefused line\nrefused line\n",
+    )?;
+    replies(
+        &rt,
+        rt.alloc(),
+        b"open -1\nopen 01\nopen 4294967296\nopen",
+        b"refused line\nrefused line\nrefused line\nrefused line\n",
+    )?;
+    replies(
+        &rt,
+        rt.alloc(),
+        b"frob\ncommit now\ntext 1\n\x80",
+        b"refused line\nrefused line\nrefused line\nrefused line\n",
+    )?;
+    let mut line = vec![in rt.alloc(); b' '; 1024]?;
+    replies(&rt, rt.alloc(), &line, b"")?;
+    line.push(b' ')?;
+    replies(&rt, rt.alloc(), &line, b"refused line\n")?;
+    line.extend_from_slice(b"\nopen 0\n")?;
+    replies(&rt, rt.alloc(), &line, b"refused line\nok 0\n")
 }
 
 #[test]
 fn the_volume_has_the_groups(rt: HostRuntime) -> Result<(), Fail> {
-    let alloc = rt.alloc();
-    let volume = b"\x01\0\0\0\0\0\0\x03\xe8\0\0\0\x02\0\0\0\x017\0".as_slice();
-    for start in [b"".as_slice(), b"\0", b"\x01", b"x"] {
-        let mut clock = StillClock { moment: 1000 };
-        let ran = run(&rt, alloc, start, FIRST, 9, NONE, &mut clock)?;
-        assert_eq!(rt; ran.status, Status::Done);
-        assert_eq!(rt; ran.volume.as_slice(), volume);
-    }
-    let mut clock = ListClock::new([1000, 900, -2, 2000].to_vec(alloc)?);
+    let volume = b"\x01\0\0\0\0\0\0\x03\xe8\0\0\0\x02\0\0\0\x017\0";
+    let ran = still(&rt, rt.alloc(), b"", FIRST, 9, NONE)?;
+    assert_eq!(rt; ran.volume.as_slice(), volume.as_slice());
+    let ran = still(&rt, rt.alloc(), b"x", FIRST, 9, NONE)?;
+    assert_eq!(rt; ran.volume.as_slice(), volume.as_slice());
+    let mut clock = ListClock::new([1000, 900, 2000].to_vec(rt.alloc())?);
     let ran = run(
         &rt,
-        alloc,
+        rt.alloc(),
         b"",
-        b"commit\ncommit\ncommit\ncommit\ncommit",
+        b"commit\ncommit\ncommit",
         9,
         NONE,
         &mut clock,
     )?;
-    assert_eq!(rt;
-        ran.output.as_slice(),
-        b"ok 1 1000\nok 2 1000\nok 3 1000\nok 4 2000\nok 5 2000\n".as_slice()
+    ends(
+        &rt,
+        &ran,
+        Status::Done,
+        b"ok 1 1000\nok 2 1000\nok 3 2000\n",
     );
     Ok(())
 }
 
+fn source(calls: &[u64]) -> Failing<'_> {
+    Failing {
+        source: calls,
+        sink: &[],
+        volume: &[],
+    }
+}
+
+fn sink(calls: &[u64]) -> Failing<'_> {
+    Failing {
+        source: &[],
+        sink: calls,
+        volume: &[],
+    }
+}
+
+fn volume(calls: &[u64]) -> Failing<'_> {
+    Failing {
+        source: &[],
+        sink: &[],
+        volume: calls,
+    }
+}
+
 #[test]
 fn faults_end_a_run_by_their_status(rt: HostRuntime) -> Result<(), Fail> {
-    let alloc = rt.alloc();
-    let source = |calls| Failing {
-        source: calls,
-        ..NONE
-    };
-    let sink = |calls| Failing {
-        sink: calls,
-        ..NONE
-    };
-    for (script, failing, status, replies) in [
-        (FIRST, source(&[1]), Status::ReadFault, b"".as_slice()),
-        (FIRST, source(&[3]), Status::ReadFault, b"ok 1\n"),
-        (b"open 0", sink(&[1]), Status::WriteFault, b""),
-        (FIRST, sink(&[3]), Status::WriteFault, b"ok 1\nok 1 1000\n"),
-    ] {
-        let mut clock = StillClock { moment: 1000 };
-        let ran = run(&rt, alloc, b"", script, 5, failing, &mut clock)?;
-        assert_eq!(rt; ran.status, status);
-        assert_eq!(rt; ran.output.as_slice(), replies);
+    let ran = still(&rt, rt.alloc(), b"", FIRST, 5, source(&[1]))?;
+    ends(&rt, &ran, Status::ReadFault, b"");
+    let ran = still(&rt, rt.alloc(), b"", FIRST, 5, source(&[3]))?;
+    ends(&rt, &ran, Status::ReadFault, b"ok 1\n");
+    let ran = still(&rt, rt.alloc(), b"", b"open 0", 5, sink(&[1]))?;
+    ends(&rt, &ran, Status::WriteFault, b"");
+    let ran = still(&rt, rt.alloc(), b"", FIRST, 5, sink(&[3]))?;
+    ends(&rt, &ran, Status::WriteFault, b"ok 1\nok 1 1000\n");
+    Ok(())
+}
+
+// The calls of the volume are a sync, the append of the gate and a sync at opening, and then those of the commit: an
+// append, a sync, the gate's byte and a sync.
+#[test]
+fn a_failing_volume_ends_a_run(rt: HostRuntime) -> Result<(), Fail> {
+    let ran = still(&rt, rt.alloc(), b"", FIRST, 5, volume(&[3]))?;
+    ends(&rt, &ran, Status::VolumeFault, b"");
+    let ran = still(&rt, rt.alloc(), b"", FIRST, 5, volume(&[4]))?;
+    ends(&rt, &ran, Status::VolumeFault, b"ok 1\n");
+    let ran = still(&rt, rt.alloc(), b"", FIRST, 5, volume(&[7]))?;
+    ends(&rt, &ran, Status::VolumeFault, b"ok 1\n");
+    let ran = still(&rt, rt.alloc(), b"", FIRST, 5, volume(&[8]))?;
+    ends(&rt, &ran, Status::Done, b"ok 1\nok 1 1000\nok 1\nok 7\n");
+    let ran = still(&rt, rt.alloc(), b"hello", FIRST, 5, NONE)?;
+    ends(&rt, &ran, Status::NotOurs { first: 104 }, b"");
+    Ok(())
+}
+
+fn usage<R: Abort + Wait>(rt: &R, alloc: Global, words: &[&str]) -> Result<(), Fail> {
+    let mut list = Vec::new(alloc);
+    for word in words {
+        list.push(String::from_str(alloc, word)?)?;
     }
-    for call in 1..9u64 {
-        let failing = Failing {
-            volume: &[call],
-            ..NONE
-        };
-        let mut clock = StillClock { moment: 1000 };
-        let ran = run(&rt, alloc, b"", FIRST, 5, failing, &mut clock)?;
-        let (status, replies) = match call {
-            1..=3 => (Status::VolumeFault, b"".as_slice()),
-            4..=7 => (Status::VolumeFault, b"ok 1\n".as_slice()),
-            _ => (Status::Done, b"ok 1\nok 1 1000\nok 1\nok 7\n".as_slice()),
-        };
-        assert_eq!(rt; ran.status, status);
-        assert_eq!(rt; ran.output.as_slice(), replies);
-    }
+    let mut clock = StillClock { moment: 1000 };
+    let ran = run_words(rt, alloc, &list, b"", FIRST, 5, NONE, &mut clock)?;
+    ends(rt, &ran, Status::Usage, b"");
     Ok(())
 }
 
 #[test]
-fn other_volumes_and_words_are_refused(rt: HostRuntime) -> Result<(), Fail> {
-    let alloc = rt.alloc();
-    let mut clock = StillClock { moment: 1000 };
-    let ran = run(&rt, alloc, b"hello", FIRST, 5, NONE, &mut clock)?;
-    assert_eq!(rt; ran.status, Status::NotOurs { first: 104 });
-    assert_eq!(rt; ran.output.len(), 0);
-    for words in [
-        [].as_slice(),
-        &["live"],
-        &["live", "a", "b"],
-        &["frob", "a"],
-        &["Live", "a"],
-        &["a", "live"],
-    ] {
-        let mut list = Vec::new(alloc);
-        for word in words {
-            list.push(String::from_str(alloc, word)?)?;
-        }
-        let ran = run_words(&rt, alloc, &list, b"", FIRST, 5, NONE, &mut clock)?;
-        assert_eq!(rt; ran.status, Status::Usage);
-        assert_eq!(rt; ran.output.len(), 0);
-    }
-    Ok(())
+fn other_words_are_refused(rt: HostRuntime) -> Result<(), Fail> {
+    usage(&rt, rt.alloc(), &[])?;
+    usage(&rt, rt.alloc(), &["live"])?;
+    usage(&rt, rt.alloc(), &["live", "a", "b"])?;
+    usage(&rt, rt.alloc(), &["Live", "a"])
 }
