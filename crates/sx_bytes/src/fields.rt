@@ -44,7 +44,7 @@ impl<'a> Fields<'a> {
         self.left.len()
     }
 
-    /// The bytes that are left. None is taken.
+    /// The bytes that are left. Nothing is taken.
     pub fn rest(&self) -> &'a [u8]
         ensures { result.now ≡ self.now }
     {

@@ -52,6 +52,8 @@ impl<R: Record> Records<R> for MemRecords<R> {
 
     ghost keeps_told = { λ a b kept. ap Some kept.0 };
 
+    ghost keeps_itself = { λ a. (refl, refl) };
+
     ghost keeps_then = { λ a b c first second. (second.0 ∙ first.0, second.1 ∙ first.1) };
 
     fn get(&mut self, alloc: Global, k: u32) -> Result<Option<R>, Fault> {

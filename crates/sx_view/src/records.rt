@@ -37,6 +37,8 @@ pub trait Records<R> {
 
     ghost keeps_told: { (a b : Self) → keeps a b → told b ≡ told a };
 
+    ghost keeps_itself: { (a : Self) → keeps a a };
+
     ghost keeps_then: { (a b c : Self) → keeps a b → keeps b c → keeps a c };
 }
 
