@@ -1,4 +1,4 @@
-ghost use Rattle.std.specs.Prelude.{◌≡◌, ◌-◌, ◌^◌, None, List, ℕ};
+ghost use Rattle.std.specs.Prelude.{◌≡◌, ◌≤◌, ◌-◌, ◌^◌, None, List, ℕ};
 ghost use Rattle.sx_volume.specs.Counts.{plus};
 ghost use Rattle.sirix.specs.Held.{place_and_bytes};
 ghost use Rattle.sirix.specs.Silent.{told_nothing};
@@ -51,6 +51,7 @@ impl FileVolume {
     // Counts a fault.
     fn fault(&mut self) -> Failed
         ensures counted { self.new ≡ record self.old { faults = plus self.old.faults 1 } }
+        ensures never_falls { self.old.faults ≤ self.new.faults }
     {
         self.faults = self.faults.saturating_add(1);
         Failed

@@ -107,7 +107,7 @@ fn make_ends(alloc: Global, file: &File) -> io::Result<Vec<FileEnd>>
     ensures { IfOk result (λ ends. vec_len ends ≡ 32) }
 {
     let mut ends = Vec::new(alloc);
-    for _ in 0..ENDS {
+    while ends.len() < ENDS {
         ends.push(FileEnd::new(file.try_clone()?))?;
     }
     Ok(ends)
