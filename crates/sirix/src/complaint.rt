@@ -1,0 +1,28 @@
+use std::fmt;
+use sx_shell::Status;
+
+/// What the program writes on the standard error of a run that did not end well.
+#[derive(Clone, Copy, Debug, PartialEq, Eq)]
+pub struct Complaint {
+    /// How the run ended. It is not `Done`.
+    pub status: Status,
+}
+
+const USAGE: &str =
+    "usage: sirix live FILE, create FILE [WINDOW [FROM [TO]]], show FILE REVISION, check FILE";
+
+impl fmt::Display for Complaint {
+    fn fmt<W: fmt::Write>(&self, f: &mut fmt::Formatter<W>) -> fmt::Result {
+        match self.status {
+            Status::Done => Ok(()),
+            Status::Usage => f.write_str(USAGE),
+            Status::ReadFault => f.write_str("sirix: reading failed"),
+            Status::WriteFault => f.write_str("sirix: writing failed"),
+            Status::VolumeFault => f.write_str("sirix: the volume failed"),
+            Status::NotOurs { first } => {
+                write!(f, "sirix: not a volume of this program, first byte {first}")
+            }
+            Status::OutOfMemory => f.write_str("sirix: out of memory"),
+        }
+    }
+}
