@@ -2,3 +2,11 @@ pub mod Writing
 pub mod Units
 pub mod StringShapes
 pub mod Results
+pub mod Values
+pub mod Turns
+pub mod MemberTurns
+pub mod Blanks
+pub mod ScalarReads
+pub mod Steps
+pub mod Skipping
+pub mod Texts

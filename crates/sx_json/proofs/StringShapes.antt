@@ -221,7 +221,7 @@ StringAt-closing bytes rest content left is s = by_cases (shape_of bytes content
         let h = heads 34 92 rest (117 ∷ r) (sym is ∙ e) in absurd (omega (arith, h.0))
 
 -- A string does not end before its closing quote.
-nothing_there : (byte : ℕ) (rest : List ℕ) → [] ≡ byte ∷ rest → ⊥
+pub nothing_there : (byte : ℕ) (rest : List ℕ) → [] ≡ byte ∷ rest → ⊥
 nothing_there byte rest e = cc
 
 pub NoString-nothing : (bytes : List ℕ) → bytes ≡ [] → NoString bytes

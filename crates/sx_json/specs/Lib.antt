@@ -3,3 +3,5 @@ pub mod Strings
 pub mod Reading
 pub mod Piece
 pub mod Grammar
+pub mod Frames
+pub mod Outcome

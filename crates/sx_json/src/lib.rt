@@ -2,9 +2,14 @@
 #![tactic(auto)]
 
 pub mod fault;
-mod front;
+pub mod reader;
+mod scalars;
 mod strings;
 pub mod writer;
 
 pub use fault::JsonFault;
+pub use reader::read;
 pub use writer::write;
+
+#[cfg(test)]
+mod tests;

@@ -87,7 +87,7 @@ fn low_at(end: usize, start: u64, bytes: &[u8]) -> Result<(u32, &[u8]), JsonFaul
         return Err(JsonFault::Ended);
     };
     if *backslash != b'\\' {
-        return Err(JsonFault::LoneSurrogate { at: start });
+        return Err(not_escape(end, start, bytes, *backslash));
     }
     let Some((letter, middle)) = behind.split_first() else {
         return Err(JsonFault::Ended);
@@ -100,6 +100,17 @@ fn low_at(end: usize, start: u64, bytes: &[u8]) -> Result<(u32, &[u8]), JsonFaul
         return Err(JsonFault::LoneSurrogate { at: start });
     }
     Ok((low, left))
+}
+
+/// The fault where no escape stands behind a high surrogate. No string goes on with a control character.
+fn not_escape(end: usize, start: u64, bytes: &[u8], byte: u8) -> JsonFault {
+    if byte < 0x20 {
+        JsonFault::BadByte {
+            at: place(end, bytes),
+        }
+    } else {
+        JsonFault::LoneSurrogate { at: start }
+    }
 }
 
 /// The fault where another escape than `u` stands behind a high surrogate, or none.

@@ -1,3 +1,5 @@
+ghost use Rattle.std.specs.Prelude.{◌≡◌, IfOk, vec_len};
+
 use std::alloc::{AllocError, Global};
 use std::sync::Wait;
 use sx_outside::{Clock, MemSink, MemSource, OpenGate};
@@ -62,10 +64,7 @@ pub(crate) fn run_words<R: Wait, C: Clock>(
         failing.source.to_vec(alloc)?,
     );
     let mut sink = MemSink::new(alloc, 1 << 16, failing.sink.to_vec(alloc)?)?;
-    let mut ends = Vec::new(alloc);
-    for _ in 0..32u32 {
-        ends.push(MemEnd::new(Vec::new(alloc)))?;
-    }
+    let mut ends = make_ends(alloc)?;
     let status = run_live(
         rt,
         alloc,
@@ -82,4 +81,15 @@ pub(crate) fn run_words<R: Wait, C: Clock>(
         output: sink.bytes().to_vec(alloc)?,
         volume: volume.as_slice().to_vec(alloc)?,
     })
+}
+
+// The ends of all clients, none of which fails.
+fn make_ends(alloc: Global) -> Result<Vec<MemEnd>, AllocError>
+    ensures { IfOk result (λ ends. vec_len ends ≡ 32) }
+{
+    let mut ends = Vec::new(alloc);
+    while ends.len() < 32 {
+        ends.push(MemEnd::new(Vec::new(alloc)))?;
+    }
+    Ok(ends)
 }

@@ -1,0 +1,15 @@
+use Rattle.sx_json.proofs.Results.{refuses_all}
+use Rattle.sx_json.proofs.Steps.{step_element, step_array_closes, stuck_element}
+use Rattle.sx_json.proofs.reader.after_element.Goals as goal
+
+pub returns-in-Some-clause-ok : goal.returns-in-Some-clause-ok
+returns-in-Some-clause-ok c =
+    rw (c.in_ok-push-in-Some.ensures.ok, c.in_ok-push.ensures.ok) (step_element c.args.frames.now c.args.bytes.now c.in-Some.after.now c.args.items c.args.value c.in-Some.ensures)
+
+pub returns-in-Some-behind-clause-ok : goal.returns-in-Some-behind-clause-ok
+returns-in-Some-behind-clause-ok c =
+    rw c.in_ok-push.ensures.ok (step_array_closes c.args.frames.now c.args.bytes.now c.in-Some-behind.after.now c.args.items c.args.value c.in-Some-behind.ensures c.requires.room)
+
+pub returns-clause-err : goal.returns-clause-err
+returns-clause-err c =
+    refuses_all _ c.unexpected.result (stuck_element c.args.frames.now c.args.bytes.now c.args.items c.args.value c.in-None.ensures c.in-None-behind.ensures c.requires.solid)

@@ -1,0 +1,120 @@
+use crate::fault::JsonFault;
+use crate::reader::read;
+use crate::writer::write;
+use std::alloc::{AllocError, Global};
+use std::test::Fail;
+use sx_tree::bytes::Bytes;
+
+fn fault_of(alloc: Global, text: &[u8]) -> Option<JsonFault> {
+    read(alloc, text).err()
+}
+
+fn nested(alloc: Global, count: usize) -> Result<Bytes, AllocError> {
+    let mut text = Bytes::new(alloc);
+    for _ in 0..count {
+        text.push(b'[')?;
+    }
+    for _ in 0..count {
+        text.push(b']')?;
+    }
+    Ok(text)
+}
+
+/// Each text, and what is written of what was read.
+#[test]
+fn rewrites(rt: HostRuntime) -> Result<(), Fail> {
+    let rows: [(&[u8], &[u8]); 8] = [
+        (b" [ -0 , 1.50e+3 ] ", b"[-0,1.50e+3]"),
+        (
+            b"{\"b\":null,\"a\":{},\"c\":[[],true,false]}",
+            b"{\"b\":null,\"a\":{},\"c\":[[],true,false]}",
+        ),
+        (
+            b"\"\\\"\\\\\\/\\b\\f\\n\\r\\t\"",
+            b"\"\\\"\\\\/\\b\\f\\n\\r\\t\"",
+        ),
+        (
+            b"\"\\u0041\\u00e9\\u20AC\\ud83d\\ude00\"",
+            b"\"A\xc3\xa9\xe2\x82\xac\xf0\x9f\x98\x80\"",
+        ),
+        (b"\"\\u0000\\u001f\\u007f\"", b"\"\\u0000\\u001f\x7f\""),
+        (b"\t\r\n1\n", b"1"),
+        (
+            b"1111111111111111111111111111111111111111111111111111111111111111",
+            b"1111111111111111111111111111111111111111111111111111111111111111",
+        ),
+        (b"{\"\":\"\\u00e4\"}", b"{\"\":\"\xc3\xa4\"}"),
+    ];
+    for (text, written) in rows {
+        let mut out = Bytes::new(rt.alloc());
+        write(rt.alloc(), &read(rt.alloc(), text)?, &mut out)?;
+        assert_eq!(rt; out.as_slice(), written);
+    }
+    Ok(())
+}
+
+/// Each text, and the fault that is known at its least byte.
+#[test]
+fn faults(rt: HostRuntime) -> Result<(), Fail> {
+    let rows: [(&[u8], JsonFault); 34] = [
+        (b"", JsonFault::Ended),
+        (b"[1", JsonFault::Ended),
+        (b"\"\\ud800", JsonFault::Ended),
+        (b"-", JsonFault::Ended),
+        (b"tru", JsonFault::Ended),
+        (b"01", JsonFault::BadByte { at: 1 }),
+        (b"1.x", JsonFault::BadByte { at: 2 }),
+        (b"trux", JsonFault::BadByte { at: 3 }),
+        (b"[1,]", JsonFault::BadByte { at: 3 }),
+        (b"{\"a\" 1}", JsonFault::BadByte { at: 5 }),
+        (b"{\"a\":1,}", JsonFault::BadByte { at: 7 }),
+        (b"{1", JsonFault::BadByte { at: 1 }),
+        (b"1 2", JsonFault::BadByte { at: 2 }),
+        (b"\"\n\"", JsonFault::BadByte { at: 1 }),
+        (b"\"\\x\"", JsonFault::BadByte { at: 2 }),
+        (b"\"\\u12g4\"", JsonFault::BadByte { at: 5 }),
+        (b"\"a\xc3", JsonFault::BadByte { at: 2 }),
+        (b"\"\xff\"", JsonFault::BadByte { at: 1 }),
+        (b"1\xc3\xa9", JsonFault::BadByte { at: 1 }),
+        (b"x\xff", JsonFault::BadByte { at: 0 }),
+        (b"{\"a\":1,\"a\":2}", JsonFault::DuplicateName { at: 7 }),
+        (b"{\"a\":1,\"\\u0061\"x", JsonFault::DuplicateName { at: 7 }),
+        (b"\"\\udc00\"", JsonFault::LoneSurrogate { at: 1 }),
+        (b"\"\\ud800\"", JsonFault::LoneSurrogate { at: 1 }),
+        (b"\"\\ud800x", JsonFault::LoneSurrogate { at: 1 }),
+        (b"\"\\ud800\\n", JsonFault::LoneSurrogate { at: 1 }),
+        (b"\"\\ud800\\x", JsonFault::BadByte { at: 8 }),
+        (b"\"\\ud800\\u0041", JsonFault::LoneSurrogate { at: 1 }),
+        (b"\"\\ud800\\u1g", JsonFault::BadByte { at: 10 }),
+        (b"\"\\ud800\n", JsonFault::BadByte { at: 7 }),
+        (b"\"\\ud800\xff", JsonFault::BadByte { at: 7 }),
+        (
+            b"11111111111111111111111111111111111111111111111111111111111111111",
+            JsonFault::NumberTooLong { at: 0 },
+        ),
+        (
+            b"1111111111111111111111111111111111111111111111111111111111111111e",
+            JsonFault::NumberTooLong { at: 0 },
+        ),
+        (
+            b"1111111111111111111111111111111111111111111111111111111111111111x",
+            JsonFault::BadByte { at: 64 },
+        ),
+    ];
+    for (text, fault) in rows {
+        assert_eq!(rt; fault_of(rt.alloc(), text), Some(fault));
+    }
+    Ok(())
+}
+
+#[test]
+fn nesting(rt: HostRuntime) -> Result<(), Fail> {
+    let deepest = nested(rt.alloc(), 256)?;
+    assert_eq!(rt; read(rt.alloc(), deepest.as_slice())?.depth(), 256);
+    let deeper = nested(rt.alloc(), 257)?;
+    assert_eq!(rt;
+        fault_of(rt.alloc(), deeper.as_slice()),
+        Some(JsonFault::TooDeep { at: 256 })
+    );
+    Ok(())
+}
