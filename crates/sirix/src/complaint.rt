@@ -26,3 +26,32 @@ impl fmt::Display for Complaint {
         }
     }
 }
+
+#[cfg(test)]
+mod tests {
+    use super::*;
+    use std::test::Fail;
+
+    #[test]
+    fn each_status_has_its_line(rt: HostRuntime) -> Result<(), Fail> {
+        let lines = [
+            (
+                Status::Usage,
+                "usage: sirix live FILE, create FILE [WINDOW [FROM [TO]]], show FILE REVISION, check FILE",
+            ),
+            (Status::ReadFault, "sirix: reading failed"),
+            (Status::WriteFault, "sirix: writing failed"),
+            (Status::VolumeFault, "sirix: the volume failed"),
+            (
+                Status::NotOurs { first: 254 },
+                "sirix: not a volume of this program, first byte 254",
+            ),
+            (Status::OutOfMemory, "sirix: out of memory"),
+        ];
+        for (status, line) in lines {
+            let text = format!(in rt.alloc(); "{}", Complaint { status })?;
+            assert_eq!(rt; text.as_str(), line);
+        }
+        Ok(())
+    }
+}

@@ -35,12 +35,16 @@ pub struct FileVolume {
 }
 
 impl FileVolume {
-    /// A volume over the file as it is. The error is that of asking for its length.
+    /// A volume over the file as it is. The error comes where its length cannot be asked, and where it is no file of
+    /// bytes but a folder, a device or a pipe.
     pub fn new(file: File) -> io::Result<FileVolume> {
-        let size = file.metadata()?.len();
+        let metadata = file.metadata()?;
+        if !metadata.is_file() {
+            return Err(io::Error::from(io::ErrorKind::InvalidInput));
+        }
         Ok(FileVolume {
             file,
-            size,
+            size: metadata.len(),
             faults: 0,
             held: None,
             calm: false,

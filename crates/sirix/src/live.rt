@@ -10,6 +10,7 @@ use std::alloc::Global;
 use std::env::Env;
 use std::fs::{File, Files, OpenOptions};
 use std::io::ErrorKind;
+use std::path::Path;
 use std::sync::Wait;
 use std::{env, io, time};
 use sx_outside::{OpenGate, Sink, Source};
@@ -87,19 +88,31 @@ fn run<R: Files<File = File> + time::Clock + Wait, S: Source, K: Sink>(
 }
 
 // Opens the file for reading and writing, and makes it where there is none.
-fn open<R: Files<File = File>>(rt: &R, alloc: Global, file: &str) -> io::Result<Opened>
+fn open<R: Files<File = File>>(rt: &R, alloc: Global, path: &str) -> io::Result<Opened>
     ensures { IfOk result (λ opened. vec_len opened.ends ≡ 32) }
 {
     let file = OpenOptions::new()
         .read(true)
         .write(true)
         .create(true)
-        .open(rt, file)?;
+        .open(rt, path)?;
+    if file.metadata()?.len() == 0 {
+        keep_name(rt, path)?;
+    }
+    // Where a standard stream is closed, the file has its number. A duplicate never has, so that no reply goes
+    // into the volume.
+    let volume = FileVolume::new(file.try_clone()?)?;
     let ends = make_ends(alloc, &file)?;
-    Ok(Opened {
-        volume: FileVolume::new(file)?,
-        ends,
-    })
+    Ok(Opened { volume, ends })
+}
+
+// Makes the name of a new file last through a crash, by a sync of the folder that it stands in.
+fn keep_name<R: Files<File = File>>(rt: &R, path: &str) -> io::Result<()> {
+    let folder = match Path::new(path).parent() {
+        Some(folder) if folder != Path::new("") => folder,
+        _ => Path::new("."),
+    };
+    File::open(rt, folder)?.sync_all()
 }
 
 // Ends over the file, each by a handle of its own.
