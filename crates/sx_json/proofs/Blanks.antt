@@ -1,8 +1,8 @@
 -- White space between tokens changes nothing.
-use Rattle.std.proofs.Common.{◌≡◌, ℕ, zero, suc, ◌≤◌, ◌⊎◌, inl, inr, List, [], ◌∷◌, ◌++◌, arith}
-use Rattle.sx_tree.specs.Value.{Value, Values, no_values, value_then, Fields, no_fields, field_then, value_of, fields_of}
+use Rattle.std.proofs.Common.{◌≡◌, ℕ, zero, suc, ◌≤◌, inr, List, [], ◌∷◌, ◌++◌, arith}
+use Rattle.sx_tree.specs.Value.{Value, Values, no_values, value_then, Fields, no_fields, field_then, value_of}
 use Rattle.sx_json.specs.Grammar.{IsBlank, AreBlanks, Led, NameThen, ValueAt, ElementsAt, MoreElementsAt, MembersAt, MoreMembersAt}
-use Rattle.sx_json.specs.Frames.{Close, Awaits, AwaitsElements, AwaitsMembers, AwaitsName, Goes}
+use Rattle.sx_json.specs.Frames.{Close, Goes}
 use Rattle.sx_json.specs.declared.reader.Frame.{Frame}
 use Rattle.sx_json.specs.declared.reader.Frame.TheVariants.{Array, Member}
 use Rattle.sx_json.specs.declared.reader.Turn.{Turn}

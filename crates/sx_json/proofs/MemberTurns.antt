@@ -1,18 +1,18 @@
 -- How a text goes on in an object, token by token.
-use Rattle.std.proofs.Common.{◌≡◌, ◌≢◌, ℕ, zero, suc, ◌+◌, ◌≤◌, ◌<◌, ◌⊎◌, inl, inr, List, [], ◌∷◌, ◌++◌, refl, ap, sym, ◌∙◌, subst, arith, length, map, append_assoc, Some, slice_get}
+use Rattle.std.proofs.Common.{◌≡◌, ◌≢◌, ℕ, zero, suc, inl, inr, List, [], ◌∷◌, ◌++◌, refl, ap, sym, ◌∙◌, subst, arith, length, Some, slice_get}
 use Rattle.std.proofs.lemmas.Option.{slice_get_within}
 use Rattle.sx_tree.specs.declared.json.Json.{Json}
 use Rattle.sx_tree.specs.Names.{AreDistinct, names_of}
-use Rattle.sx_tree.specs.Value.{Value, object, Values, Fields, no_fields, field_then, value_of, fields_of}
+use Rattle.sx_tree.specs.Value.{Value, object, Fields, no_fields, field_then, value_of, fields_of}
 use Rattle.sx_json.specs.Strings.{TextAt}
 use Rattle.sx_json.specs.Reading.{ReadsText, NoText}
 use Rattle.sx_json.specs.Grammar.{IsBlank, AreBlanks, Led, NameThen, ValueAt, MembersAt, MoreMembersAt, names_in}
 use Rattle.sx_json.specs.Frames.{Close, Awaits, AwaitsMembers, AwaitsName, append_fields}
 use Rattle.sx_json.specs.declared.reader.Frame.{Frame}
-use Rattle.sx_json.specs.declared.reader.Frame.TheVariants.{Array, Member}
+use Rattle.sx_json.specs.declared.reader.Frame.TheVariants.{Member}
 use Rattle.sx_json.proofs.StringShapes.{heads, nothing_there}
-use Rattle.sx_json.proofs.Values.{blank_small, Led-here, Led-from}
-use Rattle.sx_json.proofs.Turns.{Led-map, Led-pull, Led-push, Led-solid}
+use Rattle.sx_json.proofs.Values.{blank_small, Led-here}
+use Rattle.sx_json.proofs.Turns.{Led-pull, Led-push, Led-solid}
 
 -- what stands behind a name's colon
 abbrev Behind : Value → ℕ → Fields → List ℕ → List ℕ → Type 0

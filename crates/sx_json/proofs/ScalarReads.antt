@@ -1,17 +1,16 @@
 -- Numbers and literal names where a value is awaited.
-use Rattle.std.proofs.Common.{◌≡◌, ◌≢◌, ℕ, zero, suc, ◌+◌, ◌≤◌, ◌<◌, ◌⊎◌, inl, inr, List, [], ◌∷◌, ◌++◌, refl, ap, sym, ◌∙◌, subst, arith, length, take, drop, get_or, min, append_assoc, true, false, codes}
+use Rattle.std.proofs.Common.{◌≡◌, ◌≢◌, ℕ, ◌+◌, ◌≤◌, ◌⊎◌, inl, inr, List, [], ◌∷◌, ◌++◌, refl, ap, sym, ◌∙◌, subst, arith, length, take, drop, min, true, false, codes}
 use Rattle.std.proofs.lemmas.List.{append-nil, length-append, length-take, take-take, take-append-drop}
 use Rattle.std.proofs.Math.Seq.{take-append_seam}
-use Rattle.sx_tree.specs.declared.json.Scalar.{Scalar}
 use Rattle.sx_tree.specs.declared.json.Scalar.TheVariants.{Str, Number, Bool, Null}
 use Rattle.sx_tree.specs.Number.{IsNumber, IsDigit, AreDigits, AreSomeDigits, IsMinus, IsInt, IsFrac, IsSign, IsExp, BeginsNumber, IsLongestFront}
-use Rattle.sx_tree.specs.Value.{Value, scalar, array, object, Values, no_values, value_then, Fields, no_fields, field_then}
-use Rattle.sx_json.specs.Grammar.{IsBlank, AreBlanks, Led, NameThen, ValueAt, MoreElementsAt, MoreMembersAt}
+use Rattle.sx_tree.specs.Value.{Value, scalar, Values, no_values, value_then, Fields, no_fields, field_then}
+use Rattle.sx_json.specs.Grammar.{IsBlank, ValueAt, MoreElementsAt, MoreMembersAt}
 use Rattle.sx_json.specs.Frames.{Close, Awaits, BeginsNumberAt, BeginsScalar, NoValue, ReadsScalar}
 use Rattle.sx_json.specs.Reading.{ReadsText, NoText}
 use Rattle.sx_json.specs.declared.reader.Frame.{Frame}
 use Rattle.sx_json.specs.declared.reader.Frame.TheVariants.{Array, Member}
-use Rattle.sx_json.proofs.StringShapes.{heads, nothing_there}
+use Rattle.sx_json.proofs.StringShapes.{heads}
 use Rattle.sx_json.proofs.Values.{IsFirst, blank_small, Led-here, Led-from, First, a_string, a_number, a_true, a_false, a_null, an_array, an_object, first_of}
 use Rattle.sx_json.proofs.Turns.{Led-solid, no_string, no_value, nothing_awaited, string_read}
 

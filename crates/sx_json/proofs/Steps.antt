@@ -1,14 +1,13 @@
 -- Each step of the reader changes nothing of what the text may spell.
-use Rattle.std.proofs.Common.{◌≡◌, ◌≢◌, ℕ, zero, suc, ◌+◌, ◌≤◌, ◌<◌, ◌⊎◌, inl, inr, List, [], ◌∷◌, ◌++◌, refl, ap, sym, ◌∙◌, subst, arith, length, reverse, Some, slice_get, rules}
+use Rattle.std.proofs.Common.{◌≡◌, ℕ, zero, suc, ◌+◌, ◌≤◌, ◌<◌, List, [], ◌∷◌, ◌++◌, refl, ap, sym, ◌∙◌, subst, arith, length, reverse, Some, slice_get, rules}
 use Rattle.std.proofs.lemmas.Grind.{common_steps}
 use Rattle.std.proofs.lemmas.List.{length-append}
 use Rattle.sx_tree.specs.declared.json.Scalar.{Scalar}
 use Rattle.sx_tree.specs.declared.json.Json as json
 use Rattle.sx_tree.specs.declared.json.Json.{Json, the_lemmas}
 use Rattle.sx_tree.specs.Names.{AreDistinct, names_of}
-use Rattle.sx_tree.specs.Value.{Value, scalar, array, object, no_values, no_fields, value_of, values_of, fields_of}
+use Rattle.sx_tree.specs.Value.{scalar, array, object, no_fields, value_of, values_of, fields_of}
 use Rattle.sx_json.specs.Reading.{ReadsText, NoText}
-use Rattle.sx_json.specs.Grammar.{IsBlank, AreBlanks}
 use Rattle.sx_json.specs.Frames.{Close, Awaits, AwaitsElements, AwaitsMembers, AwaitsName, Goes, ReadsScalar, NoValue, IsSolid, BeginsOther, Skips, Follows, Steps, Stuck}
 use Rattle.sx_json.specs.declared.reader.Frame.{Frame}
 use Rattle.sx_json.specs.declared.reader.Frame.TheVariants.{Array, Member}

@@ -1,9 +1,9 @@
 -- The value of a whole text.
-use Rattle.std.proofs.Common.{◌≡◌, ℕ, zero, suc, ◌+◌, List, [], ◌∷◌, ◌++◌, refl, ap, sym, ◌∙◌, subst, length, reverse, arith, IsUtf8}
+use Rattle.std.proofs.Common.{◌≡◌, ℕ, List, [], refl, subst, arith, IsUtf8}
 use Rattle.sx_tree.specs.declared.json.Json.{Json}
 use Rattle.sx_tree.specs.Value.{Value, value_of}
-use Rattle.sx_json.specs.Grammar.{Led, ValueAt, AreBlanks, Spells}
-use Rattle.sx_json.specs.Frames.{Close, Goes, Skips, Follows, Steps, Stuck}
+use Rattle.sx_json.specs.Grammar.{Led, ValueAt, Spells}
+use Rattle.sx_json.specs.Frames.{Skips, Follows, Steps, Stuck}
 use Rattle.sx_json.specs.Outcome.{Reads}
 use Rattle.sx_json.specs.declared.reader.Frame.{Frame}
 use Rattle.sx_json.specs.declared.reader.Turn.{Turn}

@@ -1,5 +1,5 @@
 -- Four digits are one number, and no other reading of the bytes.
-use Rattle.std.proofs.Common.{◌≡◌, ℕ, ◌+◌, ◌*◌, ◌≤◌, ◌⊎◌, inl, inr, List, [], ◌∷◌, refl, ap, sym, ◌∙◌, subst, arith, Result, Ok, Err, IfErr}
+use Rattle.std.proofs.Common.{◌≡◌, ℕ, ◌+◌, ◌*◌, inl, inr, List, ◌∷◌, refl, ap, sym, ◌∙◌, subst, arith, Result, Ok, Err, IfErr}
 use Rattle.sx_json.specs.Strings.{IsHexDigit, UnitAt}
 use Rattle.sx_json.specs.Reading.{DigitAt, NoDigit, ReadsUnit, NoUnit}
 

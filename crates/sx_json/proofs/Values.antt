@@ -1,12 +1,11 @@
 -- What the first byte of a value says of it.
-use Rattle.std.proofs.Common.{◌≡◌, ◌≢◌, ℕ, suc, ◌+◌, ◌≤◌, ◌<◌, ◌⊎◌, inl, inr, List, [], ◌∷◌, ◌++◌, refl, ap, sym, ◌∙◌, subst, arith, length, append_assoc, true, false, codes}
-use Rattle.sx_tree.specs.declared.json.Scalar.{Scalar}
+use Rattle.std.proofs.Common.{◌≡◌, ℕ, suc, ◌≤◌, ◌<◌, ◌⊎◌, inl, inr, List, [], ◌∷◌, ◌++◌, refl, ap, sym, ◌∙◌, subst, arith, length, true, false, codes}
 use Rattle.sx_tree.specs.declared.json.Scalar.TheVariants.{Str, Number, Bool, Null}
 use Rattle.sx_tree.specs.Names.{AreDistinct}
-use Rattle.sx_tree.specs.Number.{IsNumber, IsDigit, AreDigits, AreSomeDigits, IsMinus, IsInt, IsFrac, IsSign, IsExp}
-use Rattle.sx_tree.specs.Value.{Value, scalar, array, object, Values, no_values, value_then, Fields, no_fields, field_then}
+use Rattle.sx_tree.specs.Number.{IsNumber, IsDigit, IsMinus, IsInt}
+use Rattle.sx_tree.specs.Value.{Value, scalar, array, object, Values, Fields}
 use Rattle.sx_json.specs.Strings.{TextAt}
-use Rattle.sx_json.specs.Grammar.{IsBlank, AreBlanks, Led, ScalarAt, ValueAt, ElementsAt, MoreElementsAt, MembersAt, MoreMembersAt, names_in}
+use Rattle.sx_json.specs.Grammar.{IsBlank, Led, ValueAt, ElementsAt, MembersAt, names_in}
 use Rattle.sx_json.proofs.StringShapes.{heads, nothing_there}
 
 pub blank_small : (byte : ℕ) → IsBlank byte → byte ≤ 32

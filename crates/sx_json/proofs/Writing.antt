@@ -1,10 +1,9 @@
 -- A text is written value by value.
-use Rattle.std.proofs.Common.{◌≡◌, ℕ, zero, suc, ◌+◌, ◌<◌, List, [], ◌∷◌, ◌++◌, refl, ap, sym, ◌∙◌, length, map, get_or, take, append_assoc, arith}
+use Rattle.std.proofs.Common.{◌≡◌, ℕ, zero, suc, ◌+◌, ◌<◌, List, [], ◌∷◌, ◌++◌, ap, sym, ◌∙◌, length, map, get_or, take, append_assoc, arith}
 use Rattle.std.proofs.lemmas.List.{take_more, append-nil, length-take}
-use Rattle.std.specs.List.{flat_map}
 use Rattle.sx_tree.specs.declared.json.Json.{Json}
-use Rattle.sx_tree.specs.Value.{value_of, values_of, fields_of, values_from, fields_from}
-use Rattle.sx_json.specs.Canonical.{comma_before, escaped, string_text, text, elements_text, more_elements_text, members_text, more_members_text}
+use Rattle.sx_tree.specs.Value.{value_of, values_of, fields_of}
+use Rattle.sx_json.specs.Canonical.{comma_before, string_text, text, elements_text, more_elements_text, members_text, more_members_text}
 
 more_elements_text-push : (xs : List Json) (x : Json) → more_elements_text (values_of (xs ++ x ∷ [])) ≡ more_elements_text (values_of xs) ++ 44 ∷ text (value_of x)
 more_elements_text-push [] x = ap (λ l. 44 ∷ l) (append-nil (text (value_of x)))

@@ -5,3 +5,4 @@ pub mod Piece
 pub mod Grammar
 pub mod Frames
 pub mod Outcome
+pub mod Front

@@ -1,8 +1,8 @@
 -- What a reading of strings found: for the reader's own functions.
-use Rattle.std.specs.Prelude.{ℕ, ◌≡◌, ◌<◌, ◌⊎◌, List, [], ◌∷◌, ◌++◌, length, encode_utf8}
+use Rattle.std.specs.Prelude.{ℕ, ◌≡◌, List, ◌∷◌, ◌++◌}
 use Rattle.sx_json.specs.declared.fault.JsonFault.{JsonFault}
 use Rattle.sx_json.specs.declared.fault.JsonFault.TheVariants.{BadByte, TooDeep, DuplicateName, LoneSurrogate, NumberTooLong, StringTooLong, Ended, OutOfMemory}
-use Rattle.sx_json.specs.Strings.{IsShortEscape, IsHexDigit, IsHighSurrogate, IsLowSurrogate, pair_char, UnitAt, StringAt, TextAt}
+use Rattle.sx_json.specs.Strings.{IsHexDigit, IsHighSurrogate, IsLowSurrogate, pair_char, UnitAt, StringAt, TextAt}
 
 -- The unit and the rest are the only ones.
 abbrev pub ReadsUnit : List ℕ → ℕ → List ℕ → Type 0

@@ -2,12 +2,14 @@
 #![tactic(auto)]
 
 pub mod fault;
+pub mod front;
 pub mod reader;
 mod scalars;
 mod strings;
 pub mod writer;
 
 pub use fault::JsonFault;
+pub use front::read_string;
 pub use reader::read;
 pub use writer::write;
 

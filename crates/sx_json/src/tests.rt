@@ -1,4 +1,5 @@
 use crate::fault::JsonFault;
+use crate::front::read_string;
 use crate::reader::read;
 use crate::writer::write;
 use std::alloc::{AllocError, Global};
@@ -116,5 +117,22 @@ fn nesting(rt: HostRuntime) -> Result<(), Fail> {
         fault_of(rt.alloc(), deeper.as_slice()),
         Some(JsonFault::TooDeep { at: 256 })
     );
+    Ok(())
+}
+
+#[test]
+fn strings(rt: HostRuntime) -> Result<(), Fail> {
+    let (name, used) = read_string(rt.alloc(), b"\"a\\u00e9\" \xff")?;
+    assert_eq!(rt; name.as_bytes(), b"a\xc3\xa9".as_slice());
+    assert_eq!(rt; used, 9);
+    let rows: [(&[u8], JsonFault); 4] = [
+        (b"x", JsonFault::BadByte { at: 0 }),
+        (b"\"a", JsonFault::Ended),
+        (b"\"a\xff", JsonFault::BadByte { at: 2 }),
+        (b"\"\\udc00\xff", JsonFault::LoneSurrogate { at: 1 }),
+    ];
+    for (text, fault) in rows {
+        assert_eq!(rt; read_string(rt.alloc(), text).err(), Some(fault));
+    }
     Ok(())
 }

@@ -4,7 +4,6 @@ use Rattle.sx_json.specs.Frames.{Steps, Stuck}
 use Rattle.sx_json.specs.Reading.{Refuses}
 use Rattle.sx_json.specs.declared.reader.Frame.TheVariants.{Array, Member}
 use Rattle.sx_json.specs.declared.reader.Turn.TheVariants as turn
-use Rattle.sx_json.proofs.Steps.{stuck_end}
 use Rattle.sx_json.proofs.reader.after_value.Goals as goal
 
 pub returns-in_err-next-in-Some-Array-clause-err : goal.returns-in_err-next-in-Some-Array-clause-err

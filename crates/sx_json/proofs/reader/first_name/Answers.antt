@@ -1,4 +1,4 @@
-use Rattle.std.proofs.Common.{◌≡◌, List, ℕ, sym, subst}
+use Rattle.std.proofs.Common.{List, ℕ, sym, subst}
 use Rattle.sx_tree.specs.declared.json.Json.{Json}
 use Rattle.sx_json.specs.Frames.{Steps}
 use Rattle.sx_json.specs.declared.reader.Turn.TheVariants as turn

@@ -1,5 +1,5 @@
 use Rattle.sx_json.proofs.Results.{refuses_all}
-use Rattle.sx_json.proofs.Steps.{step_name, stuck_name, stuck_name_text, stuck_name_again, stuck_colon}
+use Rattle.sx_json.proofs.Steps.{step_name, stuck_name, stuck_name_again, stuck_colon}
 use Rattle.sx_json.proofs.reader.name_at.Goals as goal
 
 pub returns-in-None-clause-err : goal.returns-in-None-clause-err

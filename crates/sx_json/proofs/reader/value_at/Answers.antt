@@ -1,7 +1,7 @@
 use Rattle.std.proofs.Common.{◌<◌, ◌≤◌, length, arith}
 use Rattle.sx_json.specs.Frames.{NoValue}
 use Rattle.sx_json.proofs.Results.{refuses_map}
-use Rattle.sx_json.proofs.Steps.{step_array, stuck_array, step_object, stuck_object, step_scalar, stuck_scalar}
+use Rattle.sx_json.proofs.Steps.{step_array, stuck_array, step_object, stuck_object, stuck_scalar}
 use Rattle.sx_json.proofs.reader.value_at.Goals as goal
 
 pub returns-then-len-lt-NESTING-clause-ok : goal.returns-then-len-lt-NESTING-clause-ok

@@ -1,7 +1,4 @@
-use Rattle.std.proofs.Common.{◌≡◌, ◌≤◌, ◌∙◌, sym, subst, take, drop, length, arith, true, rules, IsTrue}
-use Rattle.sx_tree.specs.declared.json.Scalar.TheVariants.{Number}
-use Rattle.sx_tree.specs.Value.{scalar}
-use Rattle.sx_json.specs.Frames.{Close}
+use Rattle.std.proofs.Common.{◌≡◌, ◌∙◌, take, arith, true, rules}
 use Rattle.sx_json.proofs.Results.{refuses_all}
 use Rattle.sx_json.proofs.ScalarReads.{number_fits, number_again, number_is_whole}
 use Rattle.sx_json.proofs.scalars.number_at.Goals as goal

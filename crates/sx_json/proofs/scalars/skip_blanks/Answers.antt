@@ -1,5 +1,4 @@
 use Rattle.std.proofs.Common.{◌≡◌, true, rules}
-use Rattle.sx_json.specs.Grammar.{IsBlank}
 use Rattle.sx_json.proofs.Skipping.{skips_more}
 use Rattle.sx_json.proofs.scalars.skip_blanks.Goals as goal
 

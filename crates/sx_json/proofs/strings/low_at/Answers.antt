@@ -1,4 +1,4 @@
-use Rattle.std.proofs.Common.{◌≡◌, ◌∷◌, ◌∙◌, ap, arith}
+use Rattle.std.proofs.Common.{◌≡◌, ◌∷◌, ◌∙◌, arith}
 use Rattle.sx_json.proofs.Units.{if_err}
 use Rattle.sx_json.proofs.StringShapes.{low_from, NoLow-unit, NoLow-range}
 use Rattle.sx_json.proofs.strings.low_at.Goals as goal

@@ -1,4 +1,4 @@
-use Rattle.std.proofs.Common.{◌≡◌, ◌∷◌, [], ℕ, arith}
+use Rattle.std.proofs.Common.{◌∷◌, [], arith}
 use Rattle.sx_json.specs.Strings.{IsPlain}
 use Rattle.sx_json.proofs.StringShapes.{Leads-plain}
 use Rattle.sx_json.proofs.strings.piece_at.Goals as goal

@@ -1,6 +1,4 @@
-use Rattle.std.proofs.Common.{◌≡◌, ◌∷◌, ◌∙◌, subst}
 use Rattle.std.proofs.lemmas.Result.{err_from_is_err_and}
-use Rattle.sx_json.specs.Piece.{IsPiece}
 use Rattle.sx_json.specs.Reading.{Leads, NoText}
 use Rattle.sx_json.proofs.Results.{refuses_map}
 use Rattle.sx_json.proofs.StringShapes.{text_read, text_refused}

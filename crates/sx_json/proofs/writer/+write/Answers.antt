@@ -1,7 +1,7 @@
-use Rattle.std.proofs.Common.{◌≡◌, ◌<◌, ◌++◌, ◌∷◌, ℕ, ap, sym, ◌∙◌, length, map, get_or, [], subst}
+use Rattle.std.proofs.Common.{◌≡◌, ◌<◌, ◌++◌, ◌∷◌, ap, sym, ◌∙◌, length, map, get_or, [], subst}
 use Rattle.std.proofs.Math.ListN.{length-map}
-use Rattle.sx_tree.specs.Value.{value_of, values_of, fields_of}
-use Rattle.sx_json.specs.Canonical.{comma_before, string_text, text, elements_text, members_text}
+use Rattle.sx_tree.specs.Value.{value_of}
+use Rattle.sx_json.specs.Canonical.{comma_before, string_text, text}
 use Rattle.sx_json.proofs.Writing.{elements_text-more, members_text-more, member_at, regrouped, regrouped_member}
 use Rattle.sx_json.proofs.writer.+write.Goals as goal
 

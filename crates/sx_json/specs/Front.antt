@@ -1,0 +1,14 @@
+-- A string at the front of a text, whatever follows it.
+use Rattle.std.specs.Prelude.{ℕ, ◌≡◌, ◌+◌, List, ◌∷◌, length}
+use Rattle.sx_json.specs.Strings.{TextAt}
+
+-- The first bytes of the text, this many, are a string that stands for the content.
+abbrev pub IsStringFront : List ℕ → List ℕ → ℕ → Type 0
+IsStringFront text content used = (inside : List ℕ) × (left : List ℕ) × (text ≡ 34 ∷ inside) × TextAt inside content left × (used + length left ≡ length text)
+
+abbrev pub NoStringFront : List ℕ → Type 0
+NoStringFront text = (content : List ℕ) (used : ℕ) → IsStringFront text content used → ⊥
+
+-- it is such a string, and the only one
+abbrev pub ReadsFront : List ℕ → List ℕ → ℕ → Type 0
+ReadsFront text content used = IsStringFront text content used × ((c : List ℕ) (u : ℕ) → IsStringFront text c u → (content ≡ c) × (used ≡ u))
