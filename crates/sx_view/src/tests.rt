@@ -35,14 +35,15 @@ fn puts_and_drops_undone(rt: HostRuntime) -> Result<(), Fail> {
     records.put(alloc, 3, counted(30))?;
     records.put(alloc, 2, counted(22))?;
     records.drop_record(alloc, 3)?;
-    assert_eq!(rt; counts(alloc, &mut records)?, [Some(11), Some(22), None]);
     records.undo();
     assert_eq!(rt; counts(alloc, &mut records)?, [Some(10), Some(20), None]);
-    records.put(alloc, 3, counted(33))?;
     records.begin();
-    records.drop_record(alloc, 1)?;
+    records.put(alloc, 1, counted(11))?;
+    records.drop_record(alloc, 2)?;
+    records.put(alloc, 3, counted(33))?;
+    assert_eq!(rt; counts(alloc, &mut records)?, [Some(11), None, Some(33)]);
     records.keep();
-    assert_eq!(rt; counts(alloc, &mut records)?, [None, Some(20), Some(33)]);
+    assert_eq!(rt; counts(alloc, &mut records)?, [Some(11), None, Some(33)]);
     Ok(())
 }
 
