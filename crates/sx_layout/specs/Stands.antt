@@ -1,10 +1,10 @@
 -- What a volume's bytes stand for.
-use Rattle.std.specs.Prelude.{ℕ, ◌≡◌, ◌≤◌, ◌<◌, ◌⊎◌, List, [], ◌∷◌, Option, None, Some, length}
-use Rattle.sx_model.specs.Commit.{Commit}
+use Rattle.std.specs.Prelude.{ℕ, List, [], ◌∷◌, Option, None, Some}
+use Rattle.sx_model.specs.Commit.{Commit, IsLegal}
 use Rattle.sx_model.specs.Edit.{after}
 use Rattle.sx_model.specs.State.{State, empty_document}
 use Rattle.sx_model.specs.Value.{Value, text_of}
-use Rattle.sx_layout.specs.Group.{Group, HasGroups}
+use Rattle.sx_layout.specs.Group.{Group, Holds}
 
 -- the canonical text of the Document's child, or nothing
 abbrev pub body_of : Option Value → List ℕ
@@ -25,7 +25,6 @@ groups_from state (commit ∷ commits) =
 abbrev pub groups_of : List Commit → List Group
 groups_of commits = groups_from empty_document commits
 
--- The image stands for these commits. One of at most one byte stands for none.
+-- The image stands for these commits, which are legal: it has their groups.
 abbrev pub Stands : List ℕ → List Commit → Type 0
-Stands image commits =
-    ((length image ≤ 1) × (commits ≡ [])) ⊎ ((1 < length image) × HasGroups image (groups_of commits))
+Stands image commits = IsLegal commits × Holds image (groups_of commits)

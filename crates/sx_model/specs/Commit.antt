@@ -1,5 +1,6 @@
 -- Commits, and the revisions that replaying them gives.
-use Rattle.std.specs.Prelude.{ℕ, ℤ, negsuc, ◌-◌, ◌^◌, ◌≤ℤ◌, List, [], ◌∷◌, take}
+use Rattle.std.specs.Prelude.{ℕ, ℤ, negsuc, ◌-◌, ◌^◌, ◌≤ℤ◌, FitsSigned, List, [], ◌∷◌, take}
+use Rattle.std.specs.Int.{w64}
 use Rattle.sx_model.specs.Edit.{Edit, after, AreAccepted}
 use Rattle.sx_model.specs.State.{State, empty_document}
 
@@ -26,8 +27,12 @@ abbrev pub last_time : ℤ → List Commit → ℤ
 last_time time [] = time
 last_time time (commit ∷ commits) = last_time commit.time commits
 
--- From a time and a state on, times never fall and each edit is accepted in turn.
+-- From a time and a state on, times are numbers of 64 bits that never fall, and each edit is accepted in turn.
 abbrev pub AreLegal : ℤ → State → List Commit → Type 0
 AreLegal time state [] = Unit {0}
 AreLegal time state (commit ∷ commits) =
-    (time ≤ℤ commit.time) × AreAccepted commit.edits state × AreLegal commit.time (after commit.edits state) commits
+    FitsSigned w64 commit.time × (time ≤ℤ commit.time) × AreAccepted commit.edits state × AreLegal commit.time (after commit.edits state) commits
+
+-- the same from revision 0 on
+abbrev pub IsLegal : List Commit → Type 0
+IsLegal commits = AreLegal first_time empty_document commits

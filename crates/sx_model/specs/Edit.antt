@@ -2,7 +2,7 @@
 use Rattle.std.specs.Prelude.{ℕ, ◌+◌, ◌^◌, nat_le, if◌then◌else◌, List, [], ◌∷◌, Result, Ok, Err, Some, IsOk}
 use Rattle.std.specs.Result.{result_unwrap_or}
 use Rattle.sx_model.specs.State.{State}
-use Rattle.sx_model.specs.Value.{Value, nodes_of}
+use Rattle.sx_model.specs.Value.{Value, IsValue, nodes_of}
 
 pub data Edit : Type 0 where
   -- the value takes the place of the Document's child
@@ -32,7 +32,11 @@ abbrev pub after : List Edit → State → State
 after [] state = state
 after (edit ∷ edits) state = after edits (edited edit state)
 
--- each of the edits is accepted in turn
+-- its values are within the limits
+abbrev pub IsEdit : Edit → Type 0
+IsEdit (load value) = IsValue value
+
+-- each of the edits is one, and is accepted in turn
 abbrev pub AreAccepted : List Edit → State → Type 0
 AreAccepted [] state = Unit {0}
-AreAccepted (edit ∷ edits) state = IsOk (apply edit state) × AreAccepted edits (edited edit state)
+AreAccepted (edit ∷ edits) state = IsEdit edit × IsOk (apply edit state) × AreAccepted edits (edited edit state)

@@ -1,9 +1,18 @@
 -- Values of JSON (RFC 8259).
-use Rattle.std.specs.Prelude.{ℕ, List}
+use Rattle.std.specs.Prelude.{ℕ, ◌≤◌, List, length}
+use Rattle.sx_tree.specs.Number.{IsNumber}
 
 pub data Value : Type 0 where
   -- a number, by its literal, which is kept as it was written
   number : List ℕ → Value
+
+-- A literal is a number of RFC 8259, section 6, of at most 64 bytes.
+abbrev pub IsLiteral : List ℕ → Type 0
+IsLiteral literal = IsNumber literal × (length literal ≤ 64)
+
+-- the value is within the limits
+abbrev pub IsValue : Value → Type 0
+IsValue (number literal) = IsLiteral literal
 
 -- the one canonical text of a value
 abbrev pub text_of : Value → List ℕ
