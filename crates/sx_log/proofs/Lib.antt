@@ -1,3 +1,6 @@
+pub mod Behind
 pub mod Groups
-pub mod Opened
+pub mod Moments
 pub mod Shown
+pub mod Rules
+pub mod Placed

@@ -1,4 +1,4 @@
 pub mod Keeps
 pub mod Row
-pub mod Times
+pub mod Reading
 pub mod Written

@@ -1,4 +1,5 @@
 use std::alloc::{AllocError, AllocFailed};
+use sx_bytes::Damage;
 use sx_outside::Failed;
 use thiserror::Error;
 
@@ -8,9 +9,9 @@ pub enum LogFault {
     /// A call of the volume failed.
     #[error("the volume failed")]
     Failed,
-    /// The volume is longer than one byte, which this layout does not open yet.
-    #[error("not a volume of this program, first byte {first}")]
-    NotOurs { first: u8 },
+    /// A group breaks a rule.
+    #[error("damaged at {}, rule {}", .0.place, .0.rule)]
+    Damaged(Damage),
     #[error("out of memory")]
     OutOfMemory,
 }
@@ -51,23 +52,14 @@ impl<T: Drop> From<AllocFailed<T>> for LogFault {
 /// Why a commit was not accepted.
 #[derive(Clone, Copy, Debug, PartialEq, Eq, Error)]
 pub enum CommitFault {
-    /// A call of the volume failed. The log is not to be used any more.
-    #[error("the volume failed")]
-    Failed,
+    /// A call of the volume failed, in stage 1, where the group is written behind the closed gate, which is a cut, an
+    /// append and a sync, or in stage 2, where the gate is opened, which is its byte and a sync. The log is not to be
+    /// used any more.
+    #[error("the volume failed in stage {stage} of a commit")]
+    Failed { stage: u8 },
     /// Nothing was done.
     #[error("out of memory")]
     OutOfMemory,
-}
-
-impl From<Failed> for CommitFault {
-    ghost use Rattle.std.specs.Prelude.{◌≡◌};
-    ghost use Rattle.sx_log.specs.declared.fault.CommitFault.TheVariants.{Failed};
-
-    ghost from_gives = { λ _ e. e ≡ Failed };
-
-    fn from(_: Failed) -> Self {
-        CommitFault::Failed
-    }
 }
 
 impl From<AllocError> for CommitFault {

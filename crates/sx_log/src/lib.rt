@@ -3,10 +3,13 @@
 
 mod fault;
 mod group;
+mod head;
 mod log;
 mod opening;
+mod reading;
 mod steps;
 
 pub use fault::{CommitFault, LogFault};
 pub use log::Log;
 pub use opening::open;
+pub use sx_bytes::Damage;

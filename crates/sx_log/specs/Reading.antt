@@ -1,0 +1,46 @@
+-- What was read of a volume so far, and what reading leaves.
+use Rattle.std.specs.Prelude.{ℕ, ℤ, ◌≡◌, ◌<◌, ◌⊎◌, List, ◌++◌, drop, Option, IfSome}
+use Rattle.sx_bytes.specs.declared.damage.Damage.{Damage}
+use Rattle.sx_layout.specs.Damage.{Breach, Breaks, Contradicts, IsDamaged, KeepRules, damage_at}
+use Rattle.sx_layout.specs.Group.{Group, AreGroups, opened, end_of}
+use Rattle.sx_log.specs.declared.fault.LogFault.{LogFault}
+use Rattle.sx_log.specs.declared.fault.LogFault.TheVariants.{Failed, Damaged, OutOfMemory}
+use Rattle.sx_model.specs.Commit.{first_time}
+use Rattle.sx_volume.specs.Images.{IsWithin, Elapses}
+
+-- groups that keep the rules stand at the front, and a gate behind them lies below the length
+pub record BeginsWithGroups (bytes : Option (List ℕ)) (size : ℕ) (groups : List Group) : Type 0 where
+  pub gate : end_of groups < size
+  pub are : AreGroups groups
+  pub keep : KeepRules first_time 1 groups
+  pub front : IfSome bytes (λ all. (rest : List ℕ) × (all ≡ opened groups ++ rest))
+
+-- Calls that make no image and take none away: those since the start are among those before, which are all there now.
+pub record LeavesImages (start end : ℕ) (was is : ℕ → List ℕ → Type 0) (before now : List ℕ → Type 0) : Type 0 where
+  pub no_more : IsWithin before (is start)
+  pub no_less : IsWithin now before
+  pub time : Elapses start end was is
+
+-- What is told of a group at this place, behind one of this time and this next number: the first rule that the bytes break,
+-- where they are told, and two values that contradict a rule always.
+abbrev pub TellsDamage : Option (List ℕ) → ℕ → ℤ → ℕ → Damage → Type 0
+TellsDamage bytes place time next damage =
+    (breach : Breach) × (damage ≡ damage_at place breach) × Contradicts breach × IfSome bytes (λ all. Breaks time next (drop place all) breach)
+
+-- where it is damage, it is told of the group at this place
+abbrev pub FaultTells : Option (List ℕ) → ℕ → ℤ → ℕ → LogFault → Type 0
+FaultTells bytes place time next Failed = Unit {0}
+FaultTells bytes place time next (Damaged damage) = TellsDamage bytes place time next damage
+FaultTells bytes place time next OutOfMemory = Unit {0}
+
+-- where it is damage, its two values contradict its rule, and where the bytes are told it is that of the first group that breaks
+-- one
+abbrev pub FaultExplains : Option (List ℕ) → LogFault → Type 0
+FaultExplains bytes Failed = Unit {0}
+FaultExplains bytes (Damaged damage) =
+    ((place : ℕ) × (breach : Breach) × (damage ≡ damage_at place breach) × Contradicts breach) × IfSome bytes (λ image. IsDamaged image damage)
+FaultExplains bytes OutOfMemory = Unit {0}
+
+-- it is neither groups nor damage
+abbrev pub IsOther : LogFault → Type 0
+IsOther fault = (fault ≡ Failed) ⊎ (fault ≡ OutOfMemory)
