@@ -1,4 +1,3 @@
 pub mod Keeps
 pub mod Row
-pub mod Times
 pub mod Written

@@ -1,7 +1,12 @@
 -- A group as it is kept in memory.
+use Rattle.std.specs.Prelude.{ℕ, ℤ, List}
 use Rattle.sx_layout.specs.Group.{Group}
 use Rattle.sx_log.specs.declared.group.Row.{Row}
 
 -- the group that a row stands for
 abbrev pub shown : Row → Group
 shown row = record { time = row.time; next = row.next; body = row.body.items }
+
+-- the group of this time, this next number and this body
+abbrev pub group_of : ℤ → ℕ → List ℕ → Group
+group_of time next body = record { time = time; next = next; body = body }

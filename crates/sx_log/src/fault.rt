@@ -51,23 +51,13 @@ impl<T: Drop> From<AllocFailed<T>> for LogFault {
 /// Why a commit was not accepted.
 #[derive(Clone, Copy, Debug, PartialEq, Eq, Error)]
 pub enum CommitFault {
-    /// A call of the volume failed. The log is not to be used any more.
-    #[error("the volume failed")]
-    Failed,
+    /// A call of the volume failed. In stage 1 it is the cut, the append or the sync that keep the group behind the
+    /// closed gate, in stage 2 the gate's byte or its sync. The log is not to be used any more.
+    #[error("the volume failed in stage {stage} of a commit")]
+    Failed { stage: u8 },
     /// Nothing was done.
     #[error("out of memory")]
     OutOfMemory,
-}
-
-impl From<Failed> for CommitFault {
-    ghost use Rattle.std.specs.Prelude.{◌≡◌};
-    ghost use Rattle.sx_log.specs.declared.fault.CommitFault.TheVariants.{Failed};
-
-    ghost from_gives = { λ _ e. e ≡ Failed };
-
-    fn from(_: Failed) -> Self {
-        CommitFault::Failed
-    }
 }
 
 impl From<AllocError> for CommitFault {

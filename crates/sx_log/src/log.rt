@@ -1,9 +1,10 @@
-ghost use Rattle.std.specs.Prelude.{◌≡◌, ◌<◌, ◌≤◌, ◌+◌, ◌^◌, ◌++◌, [], ◌∷◌, List, Some, length, OnOk, OnErr, IfSome, IfOk, is_some, IsErrOf, slice_get};
+ghost use Rattle.std.specs.Prelude.{◌≡◌, ◌<◌, ◌≤◌, ◌+◌, ◌^◌, ◌++◌, ◌⊎◌, [], ◌∷◌, List, ℕ, Some, length, OnOk, OnErr, IfSome, IfOk, IfErr, is_some, IsErrOf, slice_get};
 ghost use Rattle.sx_outside.specs.Faults.{Rose};
-ghost use Rattle.sx_layout.specs.Group.{Group, group_limit};
+ghost use Rattle.sx_layout.specs.Group.{Group, HasGroups, group_limit, last_time, last_next};
 ghost use Rattle.sx_log.specs.Keeps.{Keeps};
-ghost use Rattle.sx_log.specs.Times.{last_group_time};
+ghost use Rattle.sx_log.specs.Row.{group_of};
 ghost use Rattle.sx_model.specs.Commit.{first_time};
+ghost use Rattle.sx_volume.specs.Images.{Elapses};
 
 use crate::CommitFault;
 use crate::group::Row;
@@ -42,11 +43,21 @@ impl Log {
 
     /// The time of the last commit, or the least time where there is none.
     pub fn last_time(&self) -> i64
-        ensures { result ≡ last_group_time first_time self.now }
+        ensures { result ≡ last_time first_time self.now }
     {
         match self.groups.last() {
             Some(row) => row.time,
             None => i64::MIN,
+        }
+    }
+
+    /// The number that the next new node takes after the last commit, or 1 where there is none.
+    pub fn last_next(&self) -> u32
+        ensures { result ≡ last_next 1 self.now }
+    {
+        match self.groups.last() {
+            Some(row) => row.next,
+            None => 1,
         }
     }
 
@@ -61,7 +72,9 @@ impl Log {
     /// Adds a group to the volume, behind the gate that ends it, and opens the gate.
     ///
     /// The calls are these: a cut where something stands behind the gate, an append, a sync, the gate's byte, a sync.
-    /// After `OutOfMemory` nothing was done. After `Failed` the log is not to be used any more.
+    /// At `Ok` each crash from then on leaves the groups with this one. A crash during the call leaves those from
+    /// before it, with this one or without. After `OutOfMemory` nothing was done. After `Failed` the log is not to be
+    /// used any more.
     pub fn commit<V: Volume>(
         &mut self,
         alloc: Global,
@@ -70,14 +83,19 @@ impl Log {
         next: u32,
         body: &[u8],
     ) -> Result<(), CommitFault>
-        requires kept { Keeps (V.bytes volume.old) (V.size volume.old) self.old }
+        requires kept { Keeps (V.bytes volume.old) (V.size volume.old) (V.is_image volume.old) self.old }
         requires small { 17 + length body.now ≤ group_limit }
-        ensures added { OnOk result (self.new ≡ self.old ++ record { time = time; next = next; body = body.now } ∷ []) }
-        ensures kept { OnOk result (Keeps (V.bytes volume.new) (V.size volume.new) self.new) }
+        ensures added { OnOk result (self.new ≡ self.old ++ group_of time next body.now ∷ []) }
+        ensures kept { OnOk result (Keeps (V.bytes volume.new) (V.size volume.new) (V.is_image volume.new) self.new) }
         ensures told { OnOk result (is_some (V.bytes volume.new) ≡ is_some (V.bytes volume.old)) }
         ensures not_added { OnErr result (self.new ≡ self.old) }
-        ensures nothing_done { IsErrOf result CommitFault.OutOfMemory → (V.bytes volume.new ≡ V.bytes volume.old) × (V.size volume.new ≡ V.size volume.old) }
-        ensures cause { IsErrOf result CommitFault.Failed → Rose (V.faults volume.old) (V.faults volume.new) }
+        ensures nothing_done { IsErrOf result CommitFault.OutOfMemory → (V.bytes volume.new ≡ V.bytes volume.old) × (V.size volume.new ≡ V.size volume.old) × Keeps (V.bytes volume.new) (V.size volume.new) (V.is_image volume.new) self.new }
+        ensures stage { IfErr result (λ fault. (stage : ℕ) → fault ≡ CommitFault.Failed stage → (stage ≡ 1) ⊎ (stage ≡ 2)) }
+        ensures first_stage { IsErrOf result (CommitFault.Failed 1) → IfSome (V.bytes volume.old) (λ _. (image : List ℕ) → V.is_image volume.new image → HasGroups image self.old) }
+        ensures second_stage { IsErrOf result (CommitFault.Failed 2) → IfSome (V.bytes volume.old) (λ _. (image : List ℕ) → V.is_image volume.new image → HasGroups image self.old ⊎ HasGroups image (self.old ++ group_of time next body.now ∷ [])) }
+        ensures during { IfSome (V.bytes volume.old) (λ _. (image : List ℕ) → V.was_image volume.new (V.moment volume.old) image → HasGroups image self.old ⊎ HasGroups image (self.old ++ group_of time next body.now ∷ [])) }
+        ensures time { Elapses (V.moment volume.old) (V.moment volume.new) (V.was_image volume.old) (V.was_image volume.new) }
+        ensures cause { IfErr result (λ fault. (stage : ℕ) → fault ≡ CommitFault.Failed stage → Rose (V.faults volume.old) (V.faults volume.new)) }
         ensures never_falls { V.faults volume.old ≤ V.faults volume.new }
     {
         let row = Row {
