@@ -1,9 +1,10 @@
 -- A group that comes behind the gate that ends a list of groups.
-use Rattle.std.proofs.Common.{◌≡◌, ◌≢◌, ◌⊎◌, inl, inr, ⊎_elim, ℕ, ◌+◌, ◌<◌, ◌≤◌, List, [], ◌∷◌, ◌++◌, length, take, drop, slice_set, Option, None, Some, IfSome, refl, ap, sym, ◌∙◌, subst, arith, length-append, append_assoc, take-append-drop}
+use Rattle.std.proofs.Common.{◌≡◌, ◌⊎◌, inl, inr, ⊎_elim, ℕ, ◌+◌, ◌<◌, List, [], ◌∷◌, ◌++◌, length, take, drop, slice_set, Option, None, Some, IfSome, refl, ap, sym, ◌∙◌, subst, arith, length-append, append_assoc, take-append-drop}
 use Rattle.std.proofs.Math.Seq.{set-append_seam}
 use Rattle.std.proofs.lemmas.Bool.{cases_eq}
 use Rattle.std.proofs.lemmas.List.{append-nil, take_at}
 use Rattle.sx_layout.specs.Group.{Group, IsGroup, AreGroups, group_bytes, opened, HasGroups, end_of}
+use Rattle.std.specs.Option.{option_map}
 use Rattle.sx_log.specs.Written.{with_closed_group, with_group, IsBehind, Commits}
 use Rattle.sx_volume.specs.Images.{Only, Follows, Puts}
 
@@ -31,8 +32,8 @@ opened-append [] group rest = ap (λ (bytes : List ℕ). 1 ∷ (bytes ++ rest)) 
 opened-append (first ∷ groups) group rest =
     ap (λ (bytes : List ℕ). 1 ∷ bytes)
     (append_assoc (group_bytes first) (opened (groups ++ group ∷ [])) rest
-        ∙ ap (λ (bytes : List ℕ). group_bytes first ++ bytes) (opened-append groups group rest)
-        ∙ sym (append_assoc (group_bytes first) (opened groups) (1 ∷ (group_bytes group ++ rest))))
+    ∙ ap (λ (bytes : List ℕ). group_bytes first ++ bytes) (opened-append groups group rest)
+    ∙ sym (append_assoc (group_bytes first) (opened groups) (1 ∷ (group_bytes group ++ rest))))
 
 module _ (groups : List Group) (all : List ℕ) (has : HasGroups all groups) where
   -- the groups and the gate that ends them are all that is read
@@ -65,7 +66,6 @@ module _ (groups : List Group) (all : List ℕ) (has : HasGroups all groups) whe
     closed_group = ap (λ (list : List ℕ). list ++ piece) front ∙ append_assoc (opened groups) (has.gate ∷ []) piece
 
     -- the group counts behind an open gate, and not behind another one
-    gate_cases : (gate : ℕ) (c : List ℕ) → c ≡ opened groups ++ gate ∷ piece → HasGroups c groups ⊎ HasGroups c (groups ++ group ∷ [])
     open_gate : (gate : ℕ) (c : List ℕ) → c ≡ opened groups ++ gate ∷ piece → gate ≡ 1 → HasGroups c (groups ++ group ∷ [])
     open_gate gate c are open_is = record {
       gate = 0;
@@ -74,6 +74,8 @@ module _ (groups : List Group) (all : List ℕ) (has : HasGroups all groups) whe
       closed = λ same. omega (arith, same);
       bytes_are = are ∙ ap (λ n. opened groups ++ n ∷ piece) open_is ∙ sym (opened-append groups group (0 ∷ []));
     }
+
+    gate_cases : (gate : ℕ) (c : List ℕ) → c ≡ opened groups ++ gate ∷ piece → HasGroups c groups ⊎ HasGroups c (groups ++ group ∷ [])
     gate_cases gate c are = elim (cases_eq gate 1) [
       | inl open_is ↦ inr (open_gate gate c are open_is)
       | inr shut ↦ inl (record { gate = gate; behind = piece; are = has.are; closed = shut; bytes_are = are })
@@ -92,3 +94,44 @@ module _ (groups : List Group) (all : List ℕ) (has : HasGroups all groups) whe
 
     pub added : HasGroups (with_group (end_of groups) group all) (groups ++ group ∷ [])
     added = open_gate 1 (with_group (end_of groups) group all) (put 1) refl
+
+-- What a crash leaves of a volume that kept the groups, while what stands behind their gate is written.
+pub all_behind : (groups : List Group) (bytes : Option (List ℕ)) (gate : ℕ) (old new : List ℕ → Type 0) → gate ≡ end_of groups
+    → IfSome bytes (λ _. (c : List ℕ) → old c → HasGroups c groups)
+    → Follows (IsBehind gate) old new
+    → IfSome bytes (λ _. (c : List ℕ) → new c → HasGroups c groups)
+all_behind groups None gate old new at_end have follows = tt
+all_behind groups (Some all) gate old new at_end have follows = λ c image.
+    let from = follows c image in behind groups from.0 (have from.0 from.1) c (subst (λ n. IsBehind n from.0 c) at_end from.2)
+
+-- And while the group is committed.
+pub with_or_without : (groups : List Group) (group : Group) (bytes : Option (List ℕ)) (gate : ℕ) (old new : List ℕ → Type 0) → gate ≡ end_of groups → IsGroup group
+    → IfSome bytes (λ all. HasGroups all groups)
+    → IfSome bytes (λ _. (c : List ℕ) → old c → HasGroups c groups)
+    → IfSome bytes (λ all. Follows (Commits gate group all) old new)
+    → IfSome bytes (λ _. (c : List ℕ) → new c → HasGroups c groups ⊎ HasGroups c (groups ++ group ∷ []))
+with_or_without groups group None gate old new at_end is has have follows = tt
+with_or_without groups group (Some all) gate old new at_end is has have follows = λ c image.
+    let from = follows c image in
+    ⊎_elim
+    (λ (first : IsBehind gate from.0 c). inl (behind groups from.0 (have from.0 from.1) c (subst (λ n. IsBehind n from.0 c) at_end first)))
+    (λ (second : Puts gate (with_closed_group gate group all) c). puts groups all has group is c (subst (λ n. Puts n (with_closed_group n group all) c) at_end second))
+    from.2
+
+-- What stands for the bytes after the commit.
+pub all_added : (groups : List Group) (group : Group) (bytes written : Option (List ℕ)) (gate : ℕ) (image : List ℕ → Type 0) → gate ≡ end_of groups → IsGroup group
+    → IfSome bytes (λ all. HasGroups all groups)
+    → written ≡ option_map (λ all. with_group gate group all) bytes
+    → IfSome bytes (λ all. Only (with_group gate group all) image)
+    → IfSome written (λ all. HasGroups all (groups ++ group ∷ [])) × IfSome written (λ _. (c : List ℕ) → image c → HasGroups c (groups ++ group ∷ []))
+all_added groups group None written gate image at_end is has is_written only = (
+  subst (λ (b : Option (List ℕ)). IfSome b (λ all. HasGroups all (groups ++ group ∷ []))) (sym is_written) tt,
+  subst (λ (b : Option (List ℕ)). IfSome b (λ _. (c : List ℕ) → image c → HasGroups c (groups ++ group ∷ []))) (sym is_written) tt,
+)
+all_added groups group (Some all) written gate image at_end is has is_written only =
+    let has_more : HasGroups (with_group gate group all) (groups ++ group ∷ []) =
+    subst (λ n. HasGroups (with_group n group all) (groups ++ group ∷ [])) (sym at_end) (added groups all has group is) in (
+      subst (λ (b : Option (List ℕ)). IfSome b (λ all. HasGroups all (groups ++ group ∷ []))) (sym is_written) has_more,
+      subst (λ (b : Option (List ℕ)). IfSome b (λ _. (c : List ℕ) → image c → HasGroups c (groups ++ group ∷ []))) (sym is_written)
+          (λ c left. subst (λ (bytes : List ℕ). HasGroups bytes (groups ++ group ∷ [])) (sym (only c left)) has_more),
+    )

@@ -4,3 +4,6 @@ pub mod Moments
 pub mod Shown
 pub mod Rules
 pub mod Placed
+pub mod Fronts
+pub mod Opened
+pub mod Given

@@ -1,6 +1,6 @@
 -- How calls on a volume follow on one another, for whoever knows the tests and laws of a volume alone. What time does over
 -- several calls stands in sx_volume's lemmas on images.
-use Rattle.std.proofs.Common.{⊎_elim, ℕ, ◌≤◌, List}
+use Rattle.std.proofs.Common.{⊎_elim, ℕ, ◌≤◌, List, Option, None, Some, IfSome}
 use Rattle.sx_volume.specs.Images.{IsWithin, Follows, Elapses}
 
 -- a call that leaves no image more takes a step that may be none at all
@@ -20,8 +20,8 @@ pub follows_then : (step next : List ℕ → List ℕ → Type 0) (start before 
 follows_then step next start before after old now was is le counts_now chain so_far time here c left =
     ⊎_elim (so_far c)
     (λ (during : is before c).
-        let mid = here c during in
-        let from = so_far mid.0 (counts_now mid.0 mid.1) in (from.0, from.1, chain from.0 mid.0 c mid.1 from.2 mid.2))
+    let mid = here c during in
+    let from = so_far mid.0 (counts_now mid.0 mid.1) in (from.0, from.1, chain from.0 mid.0 c mid.1 from.2 mid.2))
     (time.nothing_else start c le left)
 
 -- one more call that leaves no image more
@@ -43,3 +43,9 @@ none_more_then start before after old now was is le counts_now so_far time here 
 -- and of which neither leaves an image less
 pub none_less_then : (old mid new : List ℕ → Type 0) → IsWithin mid old → IsWithin new mid → IsWithin new old
 none_less_then old mid new first second c image = second c (first c image)
+
+-- what held of each image at some moment holds of each image now
+pub images_now : (bytes : Option (List ℕ)) (now was : List ℕ → Type 0) (P : List ℕ → Type 0) → ((c : List ℕ) → now c → was c)
+    → IfSome bytes (λ _. (c : List ℕ) → was c → P c) → IfSome bytes (λ _. (c : List ℕ) → now c → P c)
+images_now None now was P counts_now have = tt
+images_now (Some all) now was P counts_now have = λ c image. have c (counts_now c image)

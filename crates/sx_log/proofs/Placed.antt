@@ -1,14 +1,13 @@
 -- What is read at a place.
-use Rattle.std.proofs.Common.{◌≡◌, ◌∙◌, ℕ, zero, suc, ℤ, ◌+◌, ◌-◌, ◌^◌, ◌<◌, ◌≤◌, ◌⊎◌, inl, inr, List, [], ◌∷◌, ◌++◌, length, take, drop, slice_get, get_or, slice_index_or, Option, None, Some, IfSome, refl, ap, sym, subst, append_assoc, length-append, arith, FitsSigned, w64, ⊎_elim}
+use Rattle.std.proofs.Common.{◌≡◌, ◌∙◌, ℕ, zero, suc, ℤ, ◌+◌, ◌^◌, ◌<◌, ◌≤◌, inl, inr, List, [], ◌∷◌, ◌++◌, length, take, drop, slice_get, slice_index_or, Option, None, Some, IfSome, refl, ap, sym, subst, append_assoc, arith, FitsSigned, w64, ⊎_elim}
 use Rattle.std.specs.Option.{option_map}
 use Rattle.std.proofs.lemmas.List.{drop-drop, take-append-drop, length-drop}
 use Rattle.sx_bytes.specs.declared.damage.Damage.{Damage}
-use Rattle.sx_layout.specs.Damage.{Head, BeginsWith, Breach, Breaks, Contradicts, IsBody, damage_at, head_breach}
+use Rattle.sx_layout.specs.Damage.{Head, BeginsWith, Breach, Breaks, IsBody, damage_at, head_breach}
 use Rattle.sx_layout.specs.Group.{Group, group_bytes, head_bytes}
 use Rattle.sx_log.proofs.Rules.{contradicts}
 use Rattle.sx_log.specs.Reading.{LeavesImages, TellsDamage}
 use Rattle.sx_volume.proofs.Images.{elapses_then, elapses_same}
-use Rattle.sx_volume.specs.Images.{Elapses}
 
 -- the same of two calls
 pub leaves_then : (start mid end : ℕ) (first second third : ℕ → List ℕ → Type 0) (old now new : List ℕ → Type 0)
@@ -38,10 +37,10 @@ pub told_within : (bytes : Option (List ℕ)) (size place : ℕ) → ((all : Lis
 told_within None size place told below = tt
 told_within (Some all) size place told below = let long = told all refl in omega (arith, long, below)
 
--- what is left behind the place
-pub told_long : (bytes : Option (List ℕ)) (size place : ℕ) → place ≤ size → IfSome bytes (λ all. length all ≡ size) → IfSome bytes (λ all. length all ≡ place + (size - place))
-told_long None size place below told = tt
-told_long (Some all) size place below told = omega (arith, below, told)
+-- where they are told, the bytes have this length
+pub told_long : (bytes : Option (List ℕ)) (size long : ℕ) → ((all : List ℕ) → bytes ≡ Some all → length all ≡ size) → size ≡ long → IfSome bytes (λ all. length all ≡ long)
+told_long None size long told is = tt
+told_long (Some all) size long told is = told all refl ∙ is
 
 mapped_some : (f : Breach → Damage) (breach : Option Breach) (damage : Damage) → option_map f breach ≡ Some damage → (x : Breach) × (breach ≡ Some x) × (damage ≡ f x)
 mapped_some f None damage is = absurd (cc is)
@@ -135,3 +134,8 @@ group_read (Some all) place group read body =
           ∙ ap (λ (list : List ℕ). head_bytes group.time group.next (length group.body) ++ list) tail
           ∙ sym (append_assoc (head_bytes group.time group.next (length group.body)) group.body rest),
     )
+
+-- no call at all
+pub leaves_none : (now : ℕ) (was : ℕ → List ℕ → Type 0) (image : List ℕ → Type 0) → ((t : ℕ) (c : List ℕ) → t ≤ now → image c → was t c) → ((c : List ℕ) → was now c → image c)
+    → LeavesImages now now was was image image
+leaves_none now was image counts_now only_now = record { no_more = only_now; no_less = λ c left. left; time = elapses_same now was image counts_now only_now }

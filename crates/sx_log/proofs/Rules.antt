@@ -1,10 +1,10 @@
 -- The rules on a head, test by test.
-use Rattle.std.proofs.Common.{◌≡◌, ◌∙◌, ℕ, ℤ, ◌+◌, ◌<◌, ◌≤◌, ◌⊎◌, inl, inr, Bool, true, false, cond, Option, None, Some, refl, sym, subst, arith, nat_lt}
+use Rattle.std.proofs.Common.{◌≡◌, ℕ, ℤ, ◌+◌, ◌<◌, ◌≤◌, ◌⊎◌, inl, inr, Bool, true, false, cond, None, Some, refl, sym, subst, arith, nat_lt}
 use Rattle.std.specs.Int.{cast_unsigned, w64}
 use Rattle.std.specs.Prelude.{int_lt, ◌≤ℤ◌, ◌<ℤ◌, T, not}
 use Rattle.std.proofs.lemmas.Bool.Decides.{nat_tests}
-use Rattle.sx_layout.specs.Damage.{Head, Breach, Contradicts, IsBody, KeepsRules, head_breach}
-use Rattle.sx_layout.specs.Group.{Group, group_limit}
+use Rattle.sx_layout.specs.Damage.{Head, Breach, Contradicts, head_breach}
+use Rattle.sx_layout.specs.Group.{group_limit}
 use Rattle.sx_model.specs.Edit.{number_limit}
 use lib.Signed.{lt_z_yes, lt_z_no}
 

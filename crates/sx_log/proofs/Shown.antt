@@ -1,9 +1,9 @@
 -- The rows in memory and the groups that they show.
-use Rattle.std.proofs.Common.{◌≡◌, ◌∙◌, ℕ, suc, ℤ, ◌+◌, ◌-◌, List, [], ◌∷◌, ◌++◌, length, map, Some, slice_get, ap, subst, sym, arith}
+use Rattle.std.proofs.Common.{◌≡◌, ◌∙◌, ℕ, suc, ℤ, ◌+◌, ◌-◌, List, [], ◌∷◌, ◌++◌, length, map, Some, slice_get, refl, ap, subst, sym, arith}
 use Rattle.std.proofs.lemmas.List.{map-append}
 use Rattle.sx_layout.specs.Group.{Group, group_bytes, end_of, last_time, last_next}
 use Rattle.sx_log.proofs.Groups.{end_of-append}
-use Rattle.sx_log.specs.Row.{shown}
+use Rattle.sx_log.specs.Row.{shown, group_of}
 use Rattle.sx_log.specs.declared.group.Row.{Row}
 
 -- the last group has this time and this next number
@@ -31,14 +31,20 @@ last-shown time next (first ∷ rows) row last =
     sym (subst (λ n. Some row ≡ slice_get (first ∷ rows) n) index last) in
     last_at time next (first ∷ rows) row (length rows) (omega arith) at
 
--- one more row shows one more group
-pub shown-pushed : (rows pushed : List Row) (row : Row) → pushed ≡ rows ++ row ∷ [] → map shown pushed ≡ map shown rows ++ shown row ∷ []
-shown-pushed rows pushed row is_pushed = ap (λ (list : List Row). map shown list) is_pushed ∙ map-append shown rows (row ∷ [])
+pub same_group : (time other : ℤ) (next : ℕ) (body copy : List ℕ) → copy ≡ body → other ≡ time → group_of other next copy ≡ group_of time next body
+same_group time other next body copy same_body same_time = ap (λ (t : ℤ). group_of t next copy) same_time ∙ ap (λ (b : List ℕ). group_of time next b) same_body
+
+-- one more row, for which there was room, shows one more group
+pub shown-pushed : (rows same pushed : List Row) (row : Row) (groups : List Group) → same ≡ rows → pushed ≡ same ++ row ∷ [] → map shown rows ≡ groups → map shown pushed ≡ groups ++ shown row ∷ []
+shown-pushed rows same pushed row groups are_same is_pushed show =
+    ap (λ (list : List Row). map shown list) (is_pushed ∙ ap (λ (list : List Row). list ++ row ∷ []) are_same) ∙ map-append shown rows (row ∷ [])
+    ∙ ap (λ (list : List Group). list ++ shown row ∷ []) show
 
 -- the gate behind one more row
-pub end_of-pushed : (rows pushed : List Row) (row : Row) (gate end : ℕ) → pushed ≡ rows ++ row ∷ [] → gate ≡ end_of (map shown rows)
+pub end_of-pushed : (rows same pushed : List Row) (row : Row) (gate end : ℕ) → same ≡ rows → pushed ≡ same ++ row ∷ [] → gate ≡ end_of (map shown rows)
     → end ≡ gate + 1 + length (group_bytes (shown row)) → end ≡ end_of (map shown pushed)
-end_of-pushed rows pushed row gate end is_pushed at_gate at_end =
+end_of-pushed rows same pushed row gate end are_same is_pushed at_gate at_end =
     let new_end : end_of (map shown rows ++ shown row ∷ []) ≡ end_of (map shown rows) + 1 + length (group_bytes (shown row)) = end_of-append (map shown rows) (shown row) in
-    let all : end_of (map shown pushed) ≡ end_of (map shown rows ++ shown row ∷ []) = ap (λ (list : List Group). end_of list) (shown-pushed rows pushed row is_pushed) in
+    let all : end_of (map shown pushed) ≡ end_of (map shown rows ++ shown row ∷ []) =
+    ap (λ (list : List Group). end_of list) (shown-pushed rows same pushed row (map shown rows) are_same is_pushed refl) in
     omega arith

@@ -1,12 +1,12 @@
 -- What was read of a volume so far, and what reading leaves.
-use Rattle.std.specs.Prelude.{ℕ, ℤ, ◌≡◌, ◌<◌, ◌⊎◌, List, ◌++◌, drop, Option, IfSome}
+use Rattle.std.specs.Prelude.{ℕ, ℤ, ◌≡◌, ◌<◌, ◌≤◌, ◌⊎◌, List, ◌++◌, length, drop, Option, IfSome, Result, Ok, Err}
 use Rattle.sx_bytes.specs.declared.damage.Damage.{Damage}
 use Rattle.sx_layout.specs.Damage.{Breach, Breaks, Contradicts, IsDamaged, KeepRules, damage_at}
 use Rattle.sx_layout.specs.Group.{Group, AreGroups, opened, end_of}
 use Rattle.sx_log.specs.declared.fault.LogFault.{LogFault}
 use Rattle.sx_log.specs.declared.fault.LogFault.TheVariants.{Failed, Damaged, OutOfMemory}
 use Rattle.sx_model.specs.Commit.{first_time}
-use Rattle.sx_volume.specs.Images.{IsWithin, Elapses}
+use Rattle.sx_volume.specs.Images.{Only, IsWithin, Elapses}
 
 -- groups that keep the rules stand at the front, and a gate behind them lies below the length
 pub record BeginsWithGroups (bytes : Option (List ℕ)) (size : ℕ) (groups : List Group) : Type 0 where
@@ -44,3 +44,27 @@ FaultExplains bytes OutOfMemory = Unit {0}
 -- it is neither groups nor damage
 abbrev pub IsOther : LogFault → Type 0
 IsOther fault = (fault ≡ Failed) ⊎ (fault ≡ OutOfMemory)
+
+-- The answer that the bytes have is the one that was given, unless a call failed or memory ran out.
+abbrev pub IsGiven : Result (List Group) Damage → Result (List Group) LogFault → Type 0
+IsGiven (Ok groups) (Ok log) = log ≡ groups
+IsGiven (Ok groups) (Err fault) = IsOther fault
+IsGiven (Err damage) (Ok log) = ⊥
+IsGiven (Err damage) (Err fault) = (fault ≡ Damaged damage) ⊎ IsOther fault
+
+-- A crash leaves the bytes as they are read and nothing else, where they are told.
+abbrev pub IsSettled : Option (List ℕ) → (List ℕ → Type 0) → Type 0
+IsSettled bytes is_image = IfSome bytes (λ all. Only all is_image)
+
+-- the same bytes, or at most one where there was at most one
+abbrev pub IsLeft : List ℕ → List ℕ → Type 0
+IsLeft image c = (c ≡ image) ⊎ ((length image ≤ 1) × (length c ≤ 1))
+
+-- A crash leaves what it could leave at the start, up to a moment at which a sync had succeeded. From then on it leaves what
+-- the bytes were at the start.
+pub record IsSynced (image : List ℕ) (start end : ℕ) (before : List ℕ → Type 0) (was : ℕ → List ℕ → Type 0) : Type 0 where
+  pub moment : ℕ
+  pub no_earlier : start ≤ moment
+  pub no_later : moment ≤ end
+  pub up_to : (c : List ℕ) → was start c → before c ⊎ was moment c
+  pub since : (c : List ℕ) → was moment c → IsLeft image c

@@ -52,9 +52,8 @@ impl<T: Drop> From<AllocFailed<T>> for LogFault {
 /// Why a commit was not accepted.
 #[derive(Clone, Copy, Debug, PartialEq, Eq, Error)]
 pub enum CommitFault {
-    /// A call of the volume failed, in stage 1, where the group is written behind the closed gate, which is a cut, an
-    /// append and a sync, or in stage 2, where the gate is opened, which is its byte and a sync. The log is not to be
-    /// used any more.
+    /// A call of the volume failed. In stage 1 it is the cut, the append or the sync that keep the group behind the
+    /// closed gate, in stage 2 the gate's byte or its sync. The log is not to be used any more.
     #[error("the volume failed in stage {stage} of a commit")]
     Failed { stage: u8 },
     /// Nothing was done.

@@ -34,8 +34,7 @@ impl Head {
         ensures { bytes.now ≡ head_bytes result.time result.next result.body }
     {
         let mut fields = Fields::new(bytes);
-        let (Some(time), Some(next), Some(body)) = (fields.u64(), fields.u32(), fields.u32())
-        else {
+        let (Some(time), Some(next), Some(body)) = (fields.u64(), fields.u32(), fields.u32()) else {
             unreachable!("a head has 16 bytes");
         };
         Head {

@@ -1,5 +1,5 @@
 // The groups of a volume are read. Nothing is written.
-ghost use Rattle.std.specs.Prelude.{◌≡◌, ◌+◌, ◌<◌, ◌≤◌, ◌++◌, List, Some, true, false, length, take, drop, OnOk, OnErr, IfSome, IfOk, IfErr, IsErrOf, slice_get, ℕ};
+ghost use Rattle.std.specs.Prelude.{◌≡◌, ◌+◌, ◌^◌, ◌<◌, ◌≤◌, ◌++◌, List, Some, true, false, length, take, drop, OnOk, OnErr, IfSome, IfOk, IfErr, IsErrOf, slice_get, ℕ};
 ghost use Rattle.sx_layout.specs.Damage.{IsBody, KeepsRules};
 ghost use Rattle.sx_layout.specs.Group.{HasGroups, IsGroup, end_of, group_bytes, head_bytes};
 ghost use Rattle.sx_log.specs.Reading.{BeginsWithGroups, FaultExplains, FaultTells, IsOther, LeavesImages};
@@ -28,14 +28,21 @@ pub(crate) fn read_groups<V: Volume>(alloc: Global, volume: &mut V) -> Result<Lo
     ensures cause { IsErrOf result LogFault.Failed → Rose (V.faults volume.old) (V.faults volume.new) }
     ensures never_falls { V.faults volume.old ≤ V.faults volume.new }
 {
+    let len = volume.len();
     let mut log = Log::new(alloc);
-    while read_next(alloc, volume, &mut log)? {}
+    while read_next(alloc, volume, len, &mut log)? {}
     Ok(log)
 }
 
-// Where the gate behind the groups is open, reads the group behind it.
-fn read_next<V: Volume>(alloc: Global, volume: &mut V, log: &mut Log) -> Result<bool, LogFault>
+// Where the gate behind the groups is open, reads the group behind it. The volume has this length.
+fn read_next<V: Volume>(
+    alloc: Global,
+    volume: &mut V,
+    len: u64,
+    log: &mut Log,
+) -> Result<bool, LogFault>
     requires long { 1 < V.size volume.old }
+    requires len { V.size volume.old ≡ len }
     requires front { BeginsWithGroups (V.bytes volume.old) (V.size volume.old) log.old }
     ensures front { OnOk result (BeginsWithGroups (V.bytes volume.old) (V.size volume.old) log.new) }
     ensures more { IfOk result (λ more. more ≡ true → end_of log.old < end_of log.new) }
@@ -50,26 +57,24 @@ fn read_next<V: Volume>(alloc: Global, volume: &mut V, log: &mut Log) -> Result<
     if byte_at(volume, log.end)? != OPEN {
         return Ok(false);
     }
-    let row = read_group(
-        alloc,
-        volume,
-        log.end + 1,
-        log.last_time(),
-        log.last_next(),
-    )?;
+    let place = log.end + 1;
+    let (time, next) = (log.last_time(), log.last_next());
+    let row = read_group(alloc, volume, place, len - place, time, next)?;
     log.add(row)?;
     Ok(true)
 }
 
-// Reads the group at this place, behind a group of this time and this next number.
+// Reads the group at this place, with so many bytes left, behind a group of this time and this next number.
 fn read_group<V: Volume>(
     alloc: Global,
     volume: &mut V,
     place: u64,
+    left: u64,
     time: i64,
     next: u32,
 ) -> Result<Row, LogFault>
-    requires { place ≤ V.size volume.old }
+    requires left { V.size volume.old ≡ place + left }
+    requires fits { place + left < 2 ^ 64 }
     ensures group { IfOk result (λ row. IfSome (V.bytes volume.old) (λ all. (rest : List ℕ) × (drop place all ≡ group_bytes (shown row) ++ rest))) }
     ensures room { IfOk result (λ row. place + 16 + length row.body.items < V.size volume.old) }
     ensures fits { IfOk result (λ row. IsGroup (shown row)) }
@@ -81,7 +86,6 @@ fn read_group<V: Volume>(
     ensures cause { IsErrOf result LogFault.Failed → Rose (V.faults volume.old) (V.faults volume.new) }
     ensures never_falls { V.faults volume.old ≤ V.faults volume.new }
 {
-    let left = volume.len() - place;
     if left < LEAST_GROUP {
         return Err(LogFault::Damaged(damage(place, 6, left, LEAST_GROUP)));
     }

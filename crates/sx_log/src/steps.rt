@@ -44,12 +44,7 @@ pub(crate) fn write_group<V: Volume>(
 }
 
 // Takes the memory that the calls of a commit need, and holds the group for the place behind the gate.
-fn prepare<V: Volume>(
-    alloc: Global,
-    volume: &mut V,
-    gate: u64,
-    row: &Row,
-) -> Result<(), AllocError>
+fn prepare<V: Volume>(alloc: Global, volume: &mut V, gate: u64, row: &Row) -> Result<(), AllocError>
     requires gate { gate < V.size volume.old }
     requires small { 17 + length row.now.body.items ≤ group_limit }
     ensures held { OnOk result (V.held volume.new ≡ Some (gate + 1, group_bytes (shown row.now) ++ CLOSED ∷ [])) }
@@ -98,7 +93,8 @@ fn cut_behind<V: Volume>(volume: &mut V, gate: u64) -> Result<(), Failed>
     ensures images { Follows (IsBehind gate) (V.is_image volume.old) (V.was_image volume.new (V.moment volume.old)) }
     ensures time { Elapses (V.moment volume.old) (V.moment volume.new) (V.was_image volume.old) (V.was_image volume.new) }
 {
-    if gate + 1 < volume.len() {
+    let len = volume.len();
+    if gate + 1 < len {
         volume.cut(gate + 1)?;
     }
     Ok(())

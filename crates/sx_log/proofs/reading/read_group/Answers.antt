@@ -1,7 +1,7 @@
 use Rattle.std.proofs.lemmas.Int.{to_z-of_z}
 use Rattle.std.specs.Prelude.{◌≤ℤ◌}
 use Rattle.sx_bytes.specs.declared.damage.Damage.{Damage}
-use Rattle.std.proofs.Common.{◌≡◌, ◌∙◌, ℤ, ◌+◌, ◌-◌, ◌≤◌, ap, sym, subst, arith, rules, List, ℕ, Option, IfSome, length, take, drop, None, Some, refl, w64, to_z, of_z, FitsSigned}
+use Rattle.std.proofs.Common.{◌≡◌, ◌∙◌, ℤ, ◌+◌, ap, sym, subst, rules, List, ℕ, Option, IfSome, length, take, drop, None, Some, refl, w64, to_z, of_z, FitsSigned}
 use Rattle.std.specs.Option.{option_map}
 use Rattle.sx_layout.specs.Damage.{Head, damage_at, head_breach, IsBody}
 use Rattle.sx_layout.specs.Group.{head_bytes}
@@ -13,13 +13,9 @@ use Rattle.sx_log.proofs.reading.read_group.Goals as goal
 
 pub returns-then-left-lt-LEAST_GROUP-clause-damaged : goal.returns-then-left-lt-LEAST_GROUP-clause-damaged
 returns-then-left-lt-LEAST_GROUP-clause-damaged g c =
-    tells_short (g.V.Volume.bytes c.args.volume.now) c.args.place (c.len.result - c.args.place) c.args.time c.args.next c.damage.result
-    (told_long (g.V.Volume.bytes c.args.volume.now) c.len.result c.args.place (omega (arith, c.len.ensures.value, c.requires)) c.len.ensures.told)
+    tells_short (g.V.Volume.bytes c.args.volume.now) c.args.place c.args.left c.args.time c.args.next c.damage.result
+    (told_long (g.V.Volume.bytes c.args.volume.now) (g.V.Volume.size c.args.volume.now) (c.args.place + c.args.left) (g.met.V.Volume.told_size c.args.volume.now) c.requires.left)
     c.if-left-lt-LEAST_GROUP.true c.damage.ensures
-
--- what is left, as long as the told bytes are
-left_told : (bytes : Option (List ℕ)) (size place len : ℕ) → len ≡ size → place ≤ size → IfSome bytes (λ all. length all ≡ len) → IfSome bytes (λ all. length all ≡ place + (len - place))
-left_told bytes size place len is below told = told_long bytes len place (omega (arith, is, below)) told
 
 -- the rules were tested with this time
 at_time : (time : ℤ) (next left : ℕ) (head : Head) (place : ℕ) (result : Option Damage) → FitsSigned w64 time
@@ -40,10 +36,9 @@ returns-in-Some-clause-damaged g c =
     let head : Head = shown_head c.in_ok-head.head in
     let fits : FitsSigned w64 c.in_ok-head.head.time = search rules in
     let time : FitsSigned w64 c.args.time = search rules in
-    let left : ℕ = c.len.result - c.args.place in
-    let tested = at_time c.args.time c.args.next left head c.args.place c.damage-2.result time c.damage-2.ensures in
-    tells_head (g.V.Volume.bytes c.args.volume.now) c.args.place left c.args.time c.args.next head c.in-Some.damage
-    (left_told (g.V.Volume.bytes c.args.volume.now) (g.V.Volume.size c.args.volume.now) c.args.place c.len.result c.len.ensures.value c.requires c.len.ensures.told)
+    let tested = at_time c.args.time c.args.next c.args.left head c.args.place c.damage-2.result time c.damage-2.ensures in
+    tells_head (g.V.Volume.bytes c.args.volume.now) c.args.place c.args.left c.args.time c.args.next head c.in-Some.damage
+    (told_long (g.V.Volume.bytes c.args.volume.now) (g.V.Volume.size c.args.volume.now) (c.args.place + c.args.left) (g.met.V.Volume.told_size c.args.volume.now) c.requires.left)
     c.if-left-lt-LEAST_GROUP.false fits (search rules) (search rules) c.in_ok-head.ensures.head (tested ∙ c.in-Some.is)
 
 pub returns-then-not-branch-clause-damaged : goal.returns-then-not-branch-clause-damaged
@@ -51,12 +46,11 @@ returns-then-not-branch-clause-damaged g c =
     let head : Head = shown_head c.in_ok-head.head in
     let fits : FitsSigned w64 c.in_ok-head.head.time = search rules in
     let time : FitsSigned w64 c.args.time = search rules in
-    let left : ℕ = c.len.result - c.args.place in
-    let none = fine_none c.args.time c.args.next left head c.args.place c.damage-2.result time c.damage-2.ensures c.in_default.not-Some in
+    let none = fine_none c.args.time c.args.next c.args.left head c.args.place c.damage-2.result time c.damage-2.ensures c.in_default.not-Some in
     let body : IfSome (g.V.Volume.bytes c.args.volume.now) (λ all. c.in_ok-body.body.items ≡ take c.in_ok-head.head.body (drop (c.args.place + 16) all)) =
     subst (λ (b : Option (List ℕ)). IfSome b (λ all. c.in_ok-body.body.items ≡ take c.in_ok-head.head.body (drop (c.args.place + 16) all))) c.read_head.ensures.same_bytes c.in_ok-body.ensures.bytes in
-    tells_body (g.V.Volume.bytes c.args.volume.now) c.args.place left c.args.time c.args.next head c.in_ok-body.body.items c.damage-then-not-branch.result
-    (left_told (g.V.Volume.bytes c.args.volume.now) (g.V.Volume.size c.args.volume.now) c.args.place c.len.result c.len.ensures.value c.requires c.len.ensures.told)
+    tells_body (g.V.Volume.bytes c.args.volume.now) c.args.place c.args.left c.args.time c.args.next head c.in_ok-body.body.items c.damage-then-not-branch.result
+    (told_long (g.V.Volume.bytes c.args.volume.now) (g.V.Volume.size c.args.volume.now) (c.args.place + c.args.left) (g.met.V.Volume.told_size c.args.volume.now) c.requires.left)
     c.if-left-lt-LEAST_GROUP.false fits (search rules) (search rules) c.in_ok-head.ensures.head body none
     (λ is_body. c.in_ok-is_body.ensures.no c.if-not-branch.true (subst IsBody (sym c.deref.ensures.value) is_body)) c.damage-then-not-branch.ensures
 
@@ -91,8 +85,7 @@ returns-clause-keeps g c =
     let head : Head = shown_head c.in_ok-head.head in
     let fits : FitsSigned w64 c.in_ok-head.head.time = search rules in
     let time : FitsSigned w64 c.args.time = search rules in
-    let left : ℕ = c.len.result - c.args.place in
-    let rules_kept = fine c.args.time c.args.next left head (fine_none c.args.time c.args.next left head c.args.place c.damage-2.result time c.damage-2.ensures c.in_default.not-Some) in
+    let rules_kept = fine c.args.time c.args.next c.args.left head (fine_none c.args.time c.args.next c.args.left head c.args.place c.damage-2.result time c.damage-2.ensures c.in_default.not-Some) in
     record {
       no_less = rules_kept.no_less;
       within = rules_kept.within;

@@ -1,4 +1,4 @@
-use Rattle.std.proofs.Common.{◌≡◌, ◌∙◌, ap, sym, rules, ◌-◌, ℤ, length, slice_get, Some, List, map, w64, FitsSigned}
+use Rattle.std.proofs.Common.{◌≡◌, ◌∙◌, ap, sym, rules, ◌-◌, length, slice_get, Some, List, map, w64, FitsSigned}
 use Rattle.std.proofs.lemmas.Int.{to_z-of_z}
 use Rattle.sx_layout.specs.Group.{Group, last_time}
 use Rattle.sx_log.proofs.Shown.{last-shown}
