@@ -33,12 +33,15 @@ FaultTells bytes place time next Failed = Unit {0}
 FaultTells bytes place time next (Damaged damage) = TellsDamage bytes place time next damage
 FaultTells bytes place time next OutOfMemory = Unit {0}
 
--- where it is damage, its two values contradict its rule, and where the bytes are told it is that of the first group that breaks
--- one
+-- The two values of the damage contradict its rule, and where the bytes are told it is that of the first group that breaks one.
+abbrev pub Explains : Option (List ℕ) → Damage → Type 0
+Explains bytes damage =
+    ((place : ℕ) × (breach : Breach) × (damage ≡ damage_at place breach) × Contradicts breach) × IfSome bytes (λ image. IsDamaged image damage)
+
+-- where it is damage, it is that of the bytes
 abbrev pub FaultExplains : Option (List ℕ) → LogFault → Type 0
 FaultExplains bytes Failed = Unit {0}
-FaultExplains bytes (Damaged damage) =
-    ((place : ℕ) × (breach : Breach) × (damage ≡ damage_at place breach) × Contradicts breach) × IfSome bytes (λ image. IsDamaged image damage)
+FaultExplains bytes (Damaged damage) = Explains bytes damage
 FaultExplains bytes OutOfMemory = Unit {0}
 
 -- it is neither groups nor damage

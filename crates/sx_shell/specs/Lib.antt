@@ -1,4 +1,5 @@
 pub mod Code
+pub mod Crash
 pub mod Ends
 pub mod Meant
 pub mod Outcome

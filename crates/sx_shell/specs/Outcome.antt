@@ -5,7 +5,7 @@ use Rattle.sx_run.specs.Line.{command, Says}
 use Rattle.sx_run.specs.Lines.{lines_of, ended_lines_of}
 use Rattle.sx_run.specs.Run.{Course, Step, Run}
 use Rattle.sx_shell.specs.declared.status.Status.{Status}
-use Rattle.sx_shell.specs.declared.status.Status.TheVariants.{Done, Usage, ReadFault, WriteFault, VolumeFault, NotOurs, OutOfMemory}
+use Rattle.sx_shell.specs.declared.status.Status.TheVariants.{Done, Usage, ReadFault, WriteFault, VolumeFault, Damaged, OutOfMemory}
 
 -- From its start, over the bytes that the source had, of which these are left, the run wrote these bytes and came to its end.
 abbrev pub Outcome : Course → List ℕ → List ℕ → Status → List ℕ → Course → Type 0
@@ -28,4 +28,5 @@ Outcome start input left OutOfMemory written end =
     (done : List (List ℕ)) × (more : List (List ℕ)) × (lines_of input ≡ done ++ more) × Run start done written end
 -- No line was run.
 Outcome start input left Usage written end = (written ≡ []) × (end ≡ start)
-Outcome start input left (NotOurs first) written end = (written ≡ []) × (end ≡ start)
+-- The volume stood for commits, so that no rule was broken.
+Outcome start input left (Damaged damage) written end = ⊥

@@ -1,5 +1,5 @@
 -- How far a run over a script is.
-use Rattle.std.specs.Prelude.{ℕ, ℤ, ◌≡◌, ◌≢◌, List, ◌++◌, Option, None, Some}
+use Rattle.std.specs.Prelude.{ℕ, ℤ, ◌≡◌, List, ◌++◌, Option, None, Some}
 use Rattle.sx_layout.specs.Stands.{groups_of}
 use Rattle.sx_run.specs.Lines.{HasNoFeed, HaveNoFeeds, fed}
 use Rattle.sx_run.specs.Run.{Course, Run}
@@ -33,7 +33,7 @@ pub record Progress (start : Course) (input before : List ℕ) (left written : O
 abbrev pub Ended : Course → List ℕ → List ℕ → Option (List ℕ) → Option (List ℕ) → Desk → Status → Type 0
 Ended start input before left written desk status =
     (rest : List ℕ) × (out : List ℕ) × (end : Course) × (left ≡ Some rest) × (written ≡ Some (before ++ out)) × Outcome start input rest status out end
-    × (status ≢ VolumeFault → desk.log ≡ groups_of end.commits)
+    × (desk.log ≡ groups_of end.commits) × (status ≡ VolumeFault → Shows desk end)
 
 -- the run went on, or ended
 abbrev pub Advanced : Course → List ℕ → List ℕ → Option (List ℕ) → Option (List ℕ) → Waiting → Desk → Option (List ℤ) → Option Status → Type 0

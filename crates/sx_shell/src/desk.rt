@@ -1,24 +1,28 @@
-ghost use Rattle.std.specs.Prelude.{◌≡◌, ◌≢◌, ◌<◌, ◌≤◌, ◌^◌, [], ℤ, FitsSigned, length, IfOk, OnOk, IsErrOf, is_some};
+ghost use Rattle.std.specs.Prelude.{◌≡◌, ◌≢◌, ◌<◌, ◌≤◌, ◌^◌, [], ℤ, ℕ, List, Option, FitsSigned, length, IfOk, OnOk, OnErr, IsErrOf, is_some};
 ghost use Rattle.std.specs.Int.{int_max, w64};
 ghost use Rattle.std.specs.Option.{option_map};
-ghost use Rattle.sx_layout.specs.Stands.{body_of};
-ghost use Rattle.sx_log.specs.Times.{last_group_time};
+ghost use Rattle.sx_layout.specs.Damage.{IsBody};
+ghost use Rattle.sx_layout.specs.Group.{last_time};
+ghost use Rattle.sx_layout.specs.Stands.{body_of, groups_of};
 ghost use Rattle.sx_outside.specs.Clock.{Ticks};
-ghost use Rattle.sx_model.specs.Commit.{first_time, state_of};
+ghost use Rattle.sx_model.specs.Commit.{Commit, IsLegal, first_time, replay, state_of};
 ghost use Rattle.sx_model.specs.Edit.{load};
+ghost use Rattle.sx_model.specs.State.{empty_document};
 ghost use Rattle.sx_model.specs.Value.{number};
 ghost use Rattle.sx_outside.specs.Faults.{Rose};
 ghost use Rattle.sx_log.specs.Keeps.{Keeps};
 ghost use Rattle.sx_run.specs.Command.{edit, commit, open_number, ask_text};
 ghost use Rattle.sx_run.specs.Line.{command, no_command, Says};
-ghost use Rattle.sx_run.specs.Run.{Course, Gives, Step};
+ghost use Rattle.sx_run.specs.Run.{Course, Gives, Step, started};
+ghost use Rattle.sx_volume.specs.Images.{Elapses};
+ghost use Rattle.sx_shell.specs.Crash.{During, IsFront, Now};
 
 use crate::line::{Said, parse};
 use crate::reply::{Reply, render};
 use std::alloc::{AllocError, Global};
 use sx_log::{CommitFault, Log};
 use sx_outside::Clock;
-use sx_tree::literal::Literal;
+use sx_tree::literal::{Literal, LiteralFault};
 use sx_volume::Volume;
 
 /// Node numbers are below this one.
@@ -56,17 +60,18 @@ impl Desk {
     ghost use Rattle.sx_shell.specs.Shows.{Shows, Serves, Steps};
 
     /// The desk over the commits of a log, with revision 0 open.
-    pub(crate) fn new(log: Log) -> Self
-        requires { log ≡ [] }
-        ensures shows { (course : Course) → course.commits ≡ [] → course.edits ≡ [] → course.revision ≡ 0 → Shows result course }
-        ensures same_log { result.log ≡ log }
+    pub(crate) fn new(alloc: Global, log: Log) -> Result<Self, AllocError>
+        ensures shows { IfOk result (λ desk. (commits : List Commit) (moments : Option (List ℤ)) → log ≡ groups_of commits → IsLegal commits → Shows desk (started commits moments)) }
+        ensures same_log { IfOk result (λ desk. desk.log ≡ log) }
     {
-        Desk {
+        let child = last_child(alloc, &log)?;
+        let next = log.last_next();
+        Ok(Desk {
             log,
-            child: None,
-            next: 1,
+            child,
+            next,
             revision: 0,
-        }
+        })
     }
 
     /// The reply to a line, which is empty where the line is skipped.
@@ -77,11 +82,16 @@ impl Desk {
         clock: &mut C,
         line: &[u8],
     ) -> Result<Vec<u8>, Stop>
-        requires kept { Keeps (V.bytes volume.old) (V.size volume.old) self.old.log }
+        requires kept { Keeps (V.bytes volume.old) (V.size volume.old) (V.is_image volume.old) self.old.log }
         ensures ran { IfOk result (λ reply. Serves (λ course. Step course line.now reply.items) (C.moments clock.old) (C.moments clock.new) self.old self.new) }
-        ensures kept { OnOk result (Keeps (V.bytes volume.new) (V.size volume.new) self.new.log) }
+        ensures refused { OnErr result (self.new ≡ self.old) }
+        ensures kept { OnOk result (Keeps (V.bytes volume.new) (V.size volume.new) (V.is_image volume.new) self.new.log) }
         ensures told { OnOk result (is_some (V.bytes volume.new) ≡ is_some (V.bytes volume.old)) }
-        ensures nothing_done { IsErrOf result Stop.OutOfMemory → (V.bytes volume.new ≡ V.bytes volume.old) × (V.size volume.new ≡ V.size volume.old) × (self.new.log ≡ self.old.log) }
+        ensures nothing_done { IsErrOf result Stop.OutOfMemory → (V.bytes volume.new ≡ V.bytes volume.old) × Keeps (V.bytes volume.new) (V.size volume.new) (V.is_image volume.new) self.old.log }
+        ensures during { During (V.bytes volume.old) (V.was_image volume.new (V.moment volume.old)) self.old self.new (IsErrOf result Stop.VolumeFailed) }
+        ensures now { Now (V.bytes volume.old) (V.is_image volume.new) self.new (IsErrOf result Stop.VolumeFailed) }
+        ensures time { Elapses (V.moment volume.old) (V.moment volume.new) (V.was_image volume.old) (V.was_image volume.new) }
+        ensures grows { IsFront self.old.log self.new.log }
         ensures in_commit { IsErrOf result Stop.VolumeFailed → Says line.now (command commit) }
         ensures cause { IsErrOf result Stop.VolumeFailed → Rose (V.faults volume.old) (V.faults volume.new) }
         ensures never_falls { V.faults volume.old ≤ V.faults volume.new }
@@ -100,6 +110,7 @@ impl Desk {
     fn load(&mut self, alloc: Global, literal: Literal) -> Result<Vec<u8>, AllocError>
         requires { literal ≢ [] }
         ensures ran { IfOk result (λ reply. Steps (λ course. Gives course (command (edit (load (number literal)))) reply.items) self.old self.new) }
+        ensures refused { OnErr result (self.new ≡ self.old) }
         ensures same_log { self.new.log ≡ self.old.log }
     {
         if self.next >= NUMBER_LIMIT {
@@ -113,6 +124,7 @@ impl Desk {
 
     fn open(&mut self, alloc: Global, asked: u32) -> Result<Vec<u8>, AllocError>
         ensures ran { IfOk result (λ reply. Steps (λ course. Gives course (command (open_number asked)) reply.items) self.old self.new) }
+        ensures refused { OnErr result (self.new ≡ self.old) }
         ensures same_log { self.new.log ≡ self.old.log }
     {
         let seen = self.log.count();
@@ -150,7 +162,7 @@ impl Desk {
     // The time of a commit: the greater of the clock's moment and the last commit's time.
     fn next_time<C: Clock>(&self, clock: &mut C) -> i64
         ensures { (moment : ℤ) × FitsSigned w64 moment × Ticks (C.moments clock.old) moment (C.moments clock.new)
-            × (result ≡ int_max moment (last_group_time first_time self.now.log)) }
+            × (result ≡ int_max moment (last_time first_time self.now.log)) }
     {
         clock.now().max(self.log.last_time())
     }
@@ -162,11 +174,16 @@ impl Desk {
         volume: &mut V,
         clock: &mut C,
     ) -> Result<Vec<u8>, Stop>
-        requires kept { Keeps (V.bytes volume.old) (V.size volume.old) self.old.log }
+        requires kept { Keeps (V.bytes volume.old) (V.size volume.old) (V.is_image volume.old) self.old.log }
         ensures ran { IfOk result (λ reply. Serves (λ course. Gives course (command commit) reply.items) (C.moments clock.old) (C.moments clock.new) self.old self.new) }
-        ensures kept { OnOk result (Keeps (V.bytes volume.new) (V.size volume.new) self.new.log) }
+        ensures refused { OnErr result (self.new ≡ self.old) }
+        ensures kept { OnOk result (Keeps (V.bytes volume.new) (V.size volume.new) (V.is_image volume.new) self.new.log) }
         ensures told { OnOk result (is_some (V.bytes volume.new) ≡ is_some (V.bytes volume.old)) }
-        ensures nothing_done { IsErrOf result Stop.OutOfMemory → (V.bytes volume.new ≡ V.bytes volume.old) × (V.size volume.new ≡ V.size volume.old) × (self.new.log ≡ self.old.log) }
+        ensures nothing_done { IsErrOf result Stop.OutOfMemory → (V.bytes volume.new ≡ V.bytes volume.old) × Keeps (V.bytes volume.new) (V.size volume.new) (V.is_image volume.new) self.old.log }
+        ensures during { During (V.bytes volume.old) (V.was_image volume.new (V.moment volume.old)) self.old self.new (IsErrOf result Stop.VolumeFailed) }
+        ensures now { Now (V.bytes volume.old) (V.is_image volume.new) self.new (IsErrOf result Stop.VolumeFailed) }
+        ensures time { Elapses (V.moment volume.old) (V.moment volume.new) (V.was_image volume.old) (V.was_image volume.new) }
+        ensures grows { IsFront self.old.log self.new.log }
         ensures cause { IsErrOf result Stop.VolumeFailed → Rose (V.faults volume.old) (V.faults volume.new) }
         ensures never_falls { V.faults volume.old ≤ V.faults volume.new }
     {
@@ -177,7 +194,7 @@ impl Desk {
         match self.log.commit(alloc, volume, time, self.next, body) {
             Ok(()) => Ok(reply),
             Err(CommitFault::OutOfMemory) => Err(Stop::OutOfMemory),
-            Err(CommitFault::Failed) => Err(Stop::VolumeFailed),
+            Err(CommitFault::Failed { .. }) => Err(Stop::VolumeFailed),
         }
     }
 }
@@ -190,5 +207,27 @@ fn text_of(child: &Option<Literal>) -> &[u8]
     match child {
         Some(literal) => literal.as_bytes(),
         None => &[],
+    }
+}
+
+// What the last commit left below the Document.
+fn last_child(alloc: Global, log: &Log) -> Result<Option<Literal>, AllocError>
+    ensures { IfOk result (λ child. (commits : List Commit) → log.now ≡ groups_of commits → IsLegal commits → option_map number child ≡ (replay commits empty_document).child) }
+{
+    let count = log.count();
+    if count == 0 {
+        return Ok(None);
+    }
+    child_of(alloc, log.body(count - 1))
+}
+
+// The number of which this is the text.
+fn child_of(alloc: Global, body: &[u8]) -> Result<Option<Literal>, AllocError>
+    ensures { IfOk result (λ child. IsBody body.now → body.now ≡ body_of (option_map number child)) }
+{
+    match Literal::new(alloc, body) {
+        Ok(literal) => Ok(Some(literal)),
+        Err(LiteralFault::OutOfMemory) => Err(AllocError),
+        Err(_) => Ok(None),
     }
 }

@@ -2,8 +2,13 @@ ghost use Rattle.std.specs.Prelude.{◌≡◌, ◌≢◌, ◌<◌, ◌≤◌, �
 ghost use Rattle.std.specs.String.{string_bytes};
 ghost use Rattle.sx_outside.specs.Faults.{Rose};
 ghost use Rattle.sx_log.specs.Keeps.{Keeps};
-ghost use Rattle.sx_layout.specs.Stands.{Stands, groups_of};
+ghost use Rattle.sx_bytes.specs.declared.damage.Damage.{Damage};
+ghost use Rattle.sx_layout.specs.Damage.{IsDamaged};
+ghost use Rattle.sx_layout.specs.Stands.{Stands};
+ghost use Rattle.sx_log.specs.Reading.{Explains};
+ghost use Rattle.sx_model.specs.Commit.{Commit};
 ghost use Rattle.sx_run.specs.Run.{Course, Step, started};
+ghost use Rattle.sx_shell.specs.Crash.{During, IsFront, IsSafe, IsUnopened, Now};
 ghost use Rattle.sx_shell.specs.Ends.{IsAfterOpening, IsInLine};
 ghost use Rattle.sx_shell.specs.Outcome.{Outcome};
 ghost use Rattle.sx_shell.specs.Progress.{Progress, Ended, Advanced};
@@ -11,6 +16,7 @@ ghost use Rattle.sx_shell.specs.Served.{IsServed};
 ghost use Rattle.sx_shell.specs.Shows.{Shows};
 ghost use Rattle.sx_shell.specs.Waiting.{waiting};
 ghost use Rattle.sx_shell.specs.Words.{IsLive};
+ghost use Rattle.sx_volume.specs.Images.{Elapses};
 
 use crate::Status;
 use crate::desk::{Desk, Stop};
@@ -29,7 +35,7 @@ use sx_volume::Volume;
 /// The words are those behind the program's name. End 0 is for the writer's client, and end i for reader i;
 /// they and the gate are not used yet.
 /// `Usage` comes exactly where the words are no command; `ReadFault`, `WriteFault` and `VolumeFault` only where the
-/// source, the sink or the volume failed; `NotOurs` exactly for a volume of more than one byte that could be read.
+/// source, the sink or the volume failed; `Damaged` where a group of the volume breaks a rule, for the first that does.
 pub fn run_live<R: Wait, V: Volume, S: Source, K: Sink, C: Clock, G: Gate>(
     rt: &R,
     alloc: Global,
@@ -43,21 +49,30 @@ pub fn run_live<R: Wait, V: Volume, S: Source, K: Sink, C: Clock, G: Gate>(
 ) -> Status
     requires { vec_len ends.old ≡ 32 }
 
-    // Over a volume of at most one byte, the bytes written are those of a run over the script's lines, as far as
-    // the status says, and the volume then stands for the commits of that run.
-    ensures run { (image input before : List ℕ) → V.bytes volume.old ≡ Some image → length image ≤ 1
+    // Over a volume that stands for some commits, the bytes written are those of a run that begins over these, over the
+    // script's lines, as far as the status says, and the volume then stands for the commits of that run.
+    ensures run { (image input before : List ℕ) (commits : List Commit) → V.bytes volume.old ≡ Some image → Stands image commits
         → S.left source.old ≡ Some input → K.written sink.old ≡ Some before
         → (left written : List ℕ) × (end : Course) × (S.left source.new ≡ Some left) × (K.written sink.new ≡ Some (before ++ written))
-        × Outcome (started [] (C.moments clock.old)) input left result written end
-        × (result ≢ Status.VolumeFault → (final : List ℕ) × (V.bytes volume.new ≡ Some final) × Stands final end.commits) }
+        × Outcome (started commits (C.moments clock.old)) input left result written end
+        × (result ≢ Status.VolumeFault → (final : List ℕ) × (V.bytes volume.new ≡ Some final) × Stands final end.commits)
+        // A crash at any moment leaves commits of that run.
+        × (IsSafe (started commits (C.moments clock.old)) end (result ≡ Status.VolumeFault) (V.moment volume.old) (V.moment volume.new) (V.is_image volume.old) (V.is_image volume.new) (V.was_image volume.new)
+        ⊎ IsUnopened (started commits (C.moments clock.old)) end result written (V.moment volume.old) (V.is_image volume.old) (V.was_image volume.new)) }
+
+    // Where no count of faults rises, all of the script is run, unless memory runs out.
+    ensures complete { IsLive (map string_bytes words.now) → (image : List ℕ) (commits : List Commit) → V.bytes volume.old ≡ Some image → Stands image commits
+        → (Rose (S.faults source.old) (S.faults source.new) → ⊥) → (Rose (K.faults sink.old) (K.faults sink.new) → ⊥) → (Rose (V.faults volume.old) (V.faults volume.new) → ⊥)
+        → (result ≡ Status.Done) ⊎ (result ≡ Status.OutOfMemory) }
 
     ensures usage { (result ≡ Status.Usage) ↔ (IsLive (map string_bytes words.now) → ⊥) }
     ensures read_fault { result ≡ Status.ReadFault → Rose (S.faults source.old) (S.faults source.new) }
     ensures write_fault { result ≡ Status.WriteFault → Rose (K.faults sink.old) (K.faults sink.new) }
     ensures volume_fault { result ≡ Status.VolumeFault → Rose (V.faults volume.old) (V.faults volume.new) }
-    ensures not_ours { (first : ℕ) → result ≡ Status.NotOurs first → (1 < V.size volume.old) × IfSome (V.bytes volume.old) (λ all. slice_get all 0 ≡ Some first) }
-    ensures longer { IsLive (map string_bytes words.now) → 1 < V.size volume.old
-        → ((first : ℕ) × (result ≡ Status.NotOurs first)) ⊎ (result ≡ Status.VolumeFault) ⊎ (result ≡ Status.OutOfMemory) }
+    ensures damaged { (damage : Damage) → result ≡ Status.Damaged damage → Explains (V.bytes volume.old) damage }
+    ensures damaged_exactly { IsLive (map string_bytes words.now) → (image : List ℕ) (damage : Damage) → V.bytes volume.old ≡ Some image → IsDamaged image damage
+        → (result ≡ Status.Damaged damage) ⊎ (result ≡ Status.VolumeFault) ⊎ (result ≡ Status.OutOfMemory) }
+    ensures damaged_alone { (damage : Damage) → result ≡ Status.Damaged damage → (K.written sink.new ≡ K.written sink.old) × (V.bytes volume.new ≡ V.bytes volume.old) }
     ensures source_faults { S.faults source.old ≤ S.faults source.new }
     ensures sink_faults { K.faults sink.old ≤ K.faults sink.new }
     ensures volume_faults { V.faults volume.old ≤ V.faults volume.new }
@@ -68,10 +83,12 @@ pub fn run_live<R: Wait, V: Volume, S: Source, K: Sink, C: Clock, G: Gate>(
     let log = match sx_log::open(alloc, volume) {
         Ok(log) => log,
         Err(LogFault::Failed) => return Status::VolumeFault,
-        Err(LogFault::NotOurs { first }) => return Status::NotOurs { first },
+        Err(LogFault::Damaged(damage)) => return Status::Damaged(damage),
         Err(LogFault::OutOfMemory) => return Status::OutOfMemory,
     };
-    let mut desk = Desk::new(log);
+    let Ok(mut desk) = Desk::new(alloc, log) else {
+        return Status::OutOfMemory;
+    };
     drive(rt, alloc, &mut desk, volume, source, sink, clock)
 }
 
@@ -85,12 +102,16 @@ fn drive<R: Wait, V: Volume, S: Source, K: Sink, C: Clock>(
     sink: &mut K,
     clock: &mut C,
 ) -> Status
-    requires kept { Keeps (V.bytes volume.old) (V.size volume.old) desk.old.log }
+    requires kept { Keeps (V.bytes volume.old) (V.size volume.old) (V.is_image volume.old) desk.old.log }
     ensures run { (start : Course) (input before : List ℕ) → S.left source.old ≡ Some input → K.written sink.old ≡ Some before
         → Shows desk.old start → start.moments ≡ C.moments clock.old
         → Ended start input before (S.left source.new) (K.written sink.new) desk.new result }
-    ensures kept { result ≢ Status.VolumeFault → Keeps (V.bytes volume.new) (V.size volume.new) desk.new.log }
+    ensures kept { result ≢ Status.VolumeFault → Keeps (V.bytes volume.new) (V.size volume.new) (V.is_image volume.new) desk.new.log }
     ensures told { result ≢ Status.VolumeFault → is_some (V.bytes volume.new) ≡ is_some (V.bytes volume.old) }
+    ensures during { During (V.bytes volume.old) (V.was_image volume.new (V.moment volume.old)) desk.old desk.new (result ≡ Status.VolumeFault) }
+    ensures now { Now (V.bytes volume.old) (V.is_image volume.new) desk.new (result ≡ Status.VolumeFault) }
+    ensures time { Elapses (V.moment volume.old) (V.moment volume.new) (V.was_image volume.old) (V.was_image volume.new) }
+    ensures grows { IsFront desk.old.log desk.new.log }
     ensures after_opening { IsAfterOpening result }
     ensures read_fault { result ≡ Status.ReadFault → Rose (S.faults source.old) (S.faults source.new) }
     ensures write_fault { result ≡ Status.WriteFault → Rose (K.faults sink.old) (K.faults sink.new) }
@@ -120,12 +141,16 @@ fn advance<V: Volume, S: Source, K: Sink, C: Clock>(
     sink: &mut K,
     clock: &mut C,
 ) -> Option<Status>
-    requires kept { Keeps (V.bytes volume.old) (V.size volume.old) desk.old.log }
+    requires kept { Keeps (V.bytes volume.old) (V.size volume.old) (V.is_image volume.old) desk.old.log }
     ensures run { (start : Course) (input before : List ℕ)
         → Progress start input before (S.left source.old) (K.written sink.old) (waiting reader.old) desk.old (C.moments clock.old)
         → Advanced start input before (S.left source.new) (K.written sink.new) (waiting reader.new) desk.new (C.moments clock.new) result }
-    ensures kept { result ≢ Some Status.VolumeFault → Keeps (V.bytes volume.new) (V.size volume.new) desk.new.log }
+    ensures kept { result ≢ Some Status.VolumeFault → Keeps (V.bytes volume.new) (V.size volume.new) (V.is_image volume.new) desk.new.log }
     ensures told { result ≢ Some Status.VolumeFault → is_some (V.bytes volume.new) ≡ is_some (V.bytes volume.old) }
+    ensures during { During (V.bytes volume.old) (V.was_image volume.new (V.moment volume.old)) desk.old desk.new (result ≡ Some Status.VolumeFault) }
+    ensures now { Now (V.bytes volume.old) (V.is_image volume.new) desk.new (result ≡ Some Status.VolumeFault) }
+    ensures time { Elapses (V.moment volume.old) (V.moment volume.new) (V.was_image volume.old) (V.was_image volume.new) }
+    ensures grows { IsFront desk.old.log desk.new.log }
     ensures after_opening { IfSome result IsAfterOpening }
     ensures read_fault { result ≡ Some Status.ReadFault → Rose (S.faults source.old) (S.faults source.new) }
     ensures write_fault { result ≡ Some Status.WriteFault → Rose (K.faults sink.old) (K.faults sink.new) }
@@ -156,11 +181,15 @@ fn serve<V: Volume, K: Sink, C: Clock>(
     clock: &mut C,
     line: &[u8],
 ) -> Option<Status>
-    requires kept { Keeps (V.bytes volume.old) (V.size volume.old) desk.old.log }
+    requires kept { Keeps (V.bytes volume.old) (V.size volume.old) (V.is_image volume.old) desk.old.log }
     ensures served { (before : List ℕ) (course : Course) → K.written sink.old ≡ Some before → Shows desk.old course → course.moments ≡ C.moments clock.old
         → IsServed course line.now before (K.written sink.new) (C.moments clock.new) desk.old desk.new result }
-    ensures kept { result ≢ Some Status.VolumeFault → Keeps (V.bytes volume.new) (V.size volume.new) desk.new.log }
+    ensures kept { result ≢ Some Status.VolumeFault → Keeps (V.bytes volume.new) (V.size volume.new) (V.is_image volume.new) desk.new.log }
     ensures told { result ≢ Some Status.VolumeFault → is_some (V.bytes volume.new) ≡ is_some (V.bytes volume.old) }
+    ensures during { During (V.bytes volume.old) (V.was_image volume.new (V.moment volume.old)) desk.old desk.new (result ≡ Some Status.VolumeFault) }
+    ensures now { Now (V.bytes volume.old) (V.is_image volume.new) desk.new (result ≡ Some Status.VolumeFault) }
+    ensures time { Elapses (V.moment volume.old) (V.moment volume.new) (V.was_image volume.old) (V.was_image volume.new) }
+    ensures grows { IsFront desk.old.log desk.new.log }
     ensures in_line { IfSome result IsInLine }
     ensures write_fault { result ≡ Some Status.WriteFault → Rose (K.faults sink.old) (K.faults sink.new) }
     ensures volume_fault { result ≡ Some Status.VolumeFault → Rose (V.faults volume.old) (V.faults volume.new) }

@@ -1,3 +1,5 @@
+use sx_bytes::Damage;
+
 /// How a run ended.
 #[derive(Clone, Copy, Debug, PartialEq, Eq)]
 pub enum Status {
@@ -11,8 +13,8 @@ pub enum Status {
     WriteFault,
     /// The volume failed, at opening or in a commit.
     VolumeFault,
-    /// The volume is longer than one byte, which this layout does not open yet.
-    NotOurs { first: u8 },
+    /// A group of the volume breaks a rule.
+    Damaged(Damage),
     /// Memory ran out.
     OutOfMemory,
 }
@@ -31,7 +33,7 @@ impl Status {
             Status::ReadFault => 10,
             Status::WriteFault => 11,
             Status::VolumeFault => 12,
-            Status::NotOurs { .. } => 15,
+            Status::Damaged(_) => 13,
             Status::OutOfMemory => 20,
         }
     }

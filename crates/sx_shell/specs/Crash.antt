@@ -1,0 +1,77 @@
+-- What a crash leaves of a volume over which a script runs.
+use Rattle.std.specs.Prelude.{ℕ, ℤ, ◌≡◌, ◌≤◌, ◌⊎◌, List, [], ◌∷◌, ◌++◌, Option, IfSome, FitsSigned}
+use Rattle.std.specs.Int.{int_max, w64}
+use Rattle.std.specs.Option.{option_map}
+use Rattle.sx_layout.specs.Group.{Group, HasGroups, last_time}
+use Rattle.sx_layout.specs.Stands.{Stands, body_of}
+use Rattle.sx_model.specs.Commit.{Commit, first_time}
+use Rattle.sx_model.specs.Value.{number}
+use Rattle.sx_run.specs.Run.{Course, next_commit}
+use Rattle.sx_shell.specs.declared.desk.Desk.{Desk}
+use Rattle.sx_shell.specs.declared.status.Status.{Status}
+use Rattle.sx_shell.specs.declared.status.Status.TheVariants.{Done, Usage, ReadFault, WriteFault, VolumeFault, Damaged, OutOfMemory}
+
+-- the list begins with these
+abbrev pub IsFront : {A : Type 0} → List A → List A → Type 0
+IsFront {A} front whole = (more : List A) × (whole ≡ front ++ more)
+
+-- The image stands for all commits of the course with the next one, that of its open edits.
+abbrev pub StandsWithNext : Course → List ℕ → Type 0
+StandsWithNext end image = (moment : ℤ) × FitsSigned w64 moment × Stands image (end.commits ++ next_commit end moment ∷ [])
+
+-- The image stands for the first commits of the run, with all from its start, or, where a commit failed, for all with that one.
+abbrev pub StandsDuring : Course → Course → Type 0 → List ℕ → Type 0
+StandsDuring start end failed image =
+    ((commits : List Commit) × IsFront start.commits commits × IsFront commits end.commits × Stands image commits)
+    ⊎ (failed × StandsWithNext end image)
+
+-- The image stands for the commits of the run, or, where a commit failed, for these or for these with that one.
+abbrev pub StandsAtEnd : Course → Type 0 → List ℕ → Type 0
+StandsAtEnd end failed image = Stands image end.commits ⊎ (failed × StandsWithNext end image)
+
+-- From a moment on, at which the opening's sync had succeeded, each image stands for commits of the run. Each image before that
+-- is one that the volume had at the start.
+pub record IsSafe (start end : Course) (failed : Type 0) (from now : ℕ) (before is_image : List ℕ → Type 0) (was : ℕ → List ℕ → Type 0) : Type 0 where
+  pub moment : ℕ
+  pub no_earlier : from ≤ moment
+  pub no_later : moment ≤ now
+  pub up_to : (image : List ℕ) → was from image → before image ⊎ was moment image
+  pub since : (image : List ℕ) → was moment image → StandsDuring start end failed image
+  pub at_end : (image : List ℕ) → is_image image → StandsAtEnd end failed image
+
+-- statuses of a run whose opening did not come to the success of its sync
+abbrev pub IsBeforeSync : Status → Type 0
+IsBeforeSync Done = ⊥
+IsBeforeSync Usage = Unit {0}
+IsBeforeSync ReadFault = ⊥
+IsBeforeSync WriteFault = ⊥
+IsBeforeSync VolumeFault = Unit {0}
+IsBeforeSync (Damaged damage) = ⊥
+IsBeforeSync OutOfMemory = Unit {0}
+
+-- The opening's sync did not succeed: no line was run, and each image is one that the volume had at the start.
+pub record IsUnopened (start end : Course) (status : Status) (written : List ℕ) (from : ℕ) (before : List ℕ → Type 0) (was : ℕ → List ℕ → Type 0) : Type 0 where
+  pub early : IsBeforeSync status
+  pub no_line : end ≡ start
+  pub no_reply : written ≡ []
+  pub images : (image : List ℕ) → was from image → before image
+
+-- the image has the first of the new groups, with all old ones
+abbrev pub HasBetween : List Group → List Group → List ℕ → Type 0
+HasBetween old new image = (groups : List Group) × IsFront old groups × IsFront groups new × HasGroups image groups
+
+-- the group that a commit of the desk adds, with the clock at this moment
+abbrev pub next_group : Desk → ℤ → Group
+next_group desk moment = record { time = int_max moment (last_time first_time desk.log); next = desk.next; body = body_of (option_map number desk.child) }
+
+-- the image has all groups of the desk, and that of its next commit
+abbrev pub HasNext : Desk → List ℕ → Type 0
+HasNext desk image = (moment : ℤ) × FitsSigned w64 moment × HasGroups image (desk.log ++ next_group desk moment ∷ [])
+
+-- what each image has that a crash left since the old desk
+abbrev pub During : Option (List ℕ) → (List ℕ → Type 0) → Desk → Desk → Type 0 → Type 0
+During bytes since old new failed = IfSome bytes (λ _. (image : List ℕ) → since image → HasBetween old.log new.log image ⊎ (failed × HasNext new image))
+
+-- what each image has that a crash leaves now
+abbrev pub Now : Option (List ℕ) → (List ℕ → Type 0) → Desk → Type 0 → Type 0
+Now bytes is_image desk failed = IfSome bytes (λ _. (image : List ℕ) → is_image image → HasGroups image desk.log ⊎ (failed × HasNext desk image))
