@@ -1,7 +1,7 @@
 -- Runs that go on, and lines of which only a front was kept.
-use Rattle.std.proofs.Common.{◌≡◌, ◌∙◌, ℕ, ◌+◌, ◌<◌, ◌≤◌, ◌⊎◌, inl, inr, List, [], ◌∷◌, ◌++◌, length, take, refl, ap, sym, subst, append_assoc, append-nil, arith}
+use Rattle.std.proofs.Common.{◌≡◌, ◌∙◌, ℕ, ◌<◌, ◌≤◌, ◌⊎◌, inl, inr, List, [], ◌∷◌, ◌++◌, length, take, refl, ap, sym, subst, append_assoc, append-nil, arith}
 use Rattle.std.proofs.lemmas.List.{take_all, length-take-le}
-use Rattle.sx_run.specs.Line.{Item, skipped, no_command, command, Says, line_limit}
+use Rattle.sx_run.specs.Line.{Item, skipped, no_command, command, Says}
 use Rattle.sx_run.specs.Run.{Course, Step, Run}
 
 -- a run goes on by one line

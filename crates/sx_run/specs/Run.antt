@@ -1,9 +1,9 @@
 -- A run over the lines of a script: what it changes and what it writes.
-use Rattle.std.specs.Prelude.{ℕ, ℤ, ◌≡◌, ◌+◌, nat_le, List, [], ◌∷◌, ◌++◌, length, Option, None, Some, Result, MatchResult, FitsSigned}
+use Rattle.std.specs.Prelude.{ℕ, ℤ, ◌≡◌, ◌+◌, nat_le, List, [], ◌∷◌, ◌++◌, length, Option, None, Some, MatchResult, FitsSigned}
 use Rattle.std.specs.Bool.{MatchBool}
 use Rattle.std.specs.Int.{int_max, w64}
 use Rattle.sx_model.specs.Commit.{Commit, replay, state_of, first_time, last_time}
-use Rattle.sx_model.specs.Edit.{Edit, EditRefusal, apply, after}
+use Rattle.sx_model.specs.Edit.{Edit, apply, after}
 use Rattle.sx_model.specs.State.{State, empty_document}
 use Rattle.sx_model.specs.Value.{Value, text_of}
 use Rattle.sx_outside.specs.Clock.{Ticks}

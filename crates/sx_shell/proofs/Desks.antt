@@ -5,9 +5,8 @@ use Rattle.std.proofs.lemmas.Bool.Decides.{nat_tests}
 use Rattle.std.specs.Bool.{MatchBool}
 use Rattle.std.specs.Int.{int_max}
 use Rattle.std.specs.Option.{option_map}
-use Rattle.sx_layout.specs.Group.{Group}
+use Rattle.sx_layout.specs.Group.{Group, last_time as last_group_time}
 use Rattle.sx_layout.specs.Stands.{body_of, groups_of, group_of}
-use Rattle.sx_log.specs.Times.{last_group_time}
 use Rattle.sx_model.specs.Commit.{Commit, replay, first_time, state_of}
 use Rattle.sx_model.specs.Edit.{Edit, EditRefusal, load, numbers_spent, apply}
 use Rattle.sx_model.specs.State.{State, empty_document}
@@ -19,7 +18,7 @@ use Rattle.sx_run.specs.Reply.{Reply, reply_bytes, first, committed, opened, edi
 use Rattle.sx_run.specs.Run.{Course, current, next_commit, Answers, Gives}
 use Rattle.sx_shell.specs.Shows.{HasText, Shows}
 use Rattle.sx_shell.specs.declared.desk.Desk.{Desk}
-use Rattle.sx_shell.proofs.Groups.{after-append, replay-append, groups_from-append, length-groups_from, last_group_time-groups_from, texts-append, slice_get-within, body_at}
+use Rattle.sx_shell.proofs.Groups.{after-append, replay-append, groups_from-append, length-groups_from, last_time-groups_from, texts-append, slice_get-within, body_at}
 
 within : (a b : ℕ) → a ≤ b → nat_le a b ≡ true
 within a b le = grind (arith, nat_tests)
@@ -155,7 +154,7 @@ commits_edits old new course before after_moments moment revision body bytes sho
     let next : Course = record course { commits = course.commits ++ done ∷ []; edits = []; moments = after_moments } in
     let time : int_max moment (last_group_time first_time old.log) ≡ done.time =
     ap (λ (groups : List Group). int_max moment (last_group_time first_time groups)) shows.groups
-    ∙ ap (λ (t : ℤ). int_max moment t) (last_group_time-groups_from course.commits empty_document first_time) in
+    ∙ ap (λ (t : ℤ). int_max moment t) (last_time-groups_from course.commits empty_document first_time) in
     let count : revision ≡ length course.commits + 1 = is_revision ∙ ap (λ (n : ℕ). n + 1) (seen_all old course shows) in
     let now : current next ≡ current course = replay-append course.commits done empty_document in
     let group : Group = record { time = int_max moment (last_group_time first_time old.log); next = old.next; body = body } in

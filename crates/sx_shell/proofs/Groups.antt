@@ -1,8 +1,7 @@
 -- Commits, their groups and the states of their revisions.
 use Rattle.std.proofs.Common.{◌≡◌, ◌≢◌, ◌∙◌, ℕ, zero, suc, ℤ, List, [], ◌∷◌, ◌++◌, length, take, slice_get, Some, Option, None, ◌<◌, refl, ap, sym, arith}
-use Rattle.sx_layout.specs.Group.{Group}
+use Rattle.sx_layout.specs.Group.{Group, last_time as last_group_time, last_next}
 use Rattle.sx_layout.specs.Stands.{body_of, group_of, groups_from}
-use Rattle.sx_log.specs.Times.{last_group_time}
 use Rattle.sx_model.specs.Commit.{Commit, replay, last_time}
 use Rattle.sx_model.specs.Edit.{Edit, after, edited}
 use Rattle.sx_model.specs.State.{State}
@@ -29,9 +28,13 @@ pub length-groups_from : (commits : List Commit) (state : State) → length (gro
 length-groups_from [] state = refl
 length-groups_from (commit ∷ commits) state = ap (λ n. suc n) (length-groups_from commits (after commit.edits state))
 
-pub last_group_time-groups_from : (commits : List Commit) (state : State) (time : ℤ) → last_group_time time (groups_from state commits) ≡ last_time time commits
-last_group_time-groups_from [] state time = refl
-last_group_time-groups_from (commit ∷ commits) state time = last_group_time-groups_from commits (after commit.edits state) commit.time
+pub last_time-groups_from : (commits : List Commit) (state : State) (time : ℤ) → last_group_time time (groups_from state commits) ≡ last_time time commits
+last_time-groups_from [] state time = refl
+last_time-groups_from (commit ∷ commits) state time = last_time-groups_from commits (after commit.edits state) commit.time
+
+pub last_next-groups_from : (commits : List Commit) (state : State) → last_next state.next (groups_from state commits) ≡ (replay commits state).next
+last_next-groups_from [] state = refl
+last_next-groups_from (commit ∷ commits) state = last_next-groups_from commits (after commit.edits state)
 
 -- the body at an index is the text of the revision behind it
 pub body_at : (commits : List Commit) (state : State) (index : ℕ) (group : Group) → slice_get (groups_from state commits) index ≡ Some group

@@ -8,3 +8,5 @@ pub mod Desks
 pub mod Groups
 pub mod Progresses
 pub mod Standing
+pub mod Crashes
+pub mod Starting

@@ -15,7 +15,7 @@ use Rattle.sx_shell.specs.Shows.{Shows}
 use Rattle.sx_shell.specs.Waiting.{Waiting, kept, IsAtEnd, IsMoved, Ends, GoesOn}
 use Rattle.sx_shell.specs.declared.desk.Desk.{Desk}
 use Rattle.sx_shell.specs.declared.status.Status.{Status}
-use Rattle.sx_shell.specs.declared.status.Status.TheVariants.{Done, Usage, ReadFault, WriteFault, VolumeFault, NotOurs, OutOfMemory}
+use Rattle.sx_shell.specs.declared.status.Status.TheVariants.{Done, Usage, ReadFault, WriteFault, VolumeFault, Damaged, OutOfMemory}
 
 short_or_long : (line : List ℕ) → (length line ≤ 1025) ⊎ (1025 < length line)
 short_or_long line = elim (leb_tells (length line) 1025) [ inl short ↦ inl short.1 | inr long ↦ inr (omega (arith, long.1)) ]
@@ -76,30 +76,37 @@ begun start input before left written waiting desk moments is_left is_written no
 pub none_begun : (start : Course) (input before : List ℕ) (left written : Option (List ℕ)) (desk : Desk)
     → left ≡ Some input → written ≡ Some before → Shows desk start → Ended start input before left written desk OutOfMemory
 none_begun start input before left written desk is_left is_written shows =
-    (input, [], start, is_left, is_written ∙ ap (λ (b : List ℕ). Some b) (sym (append-nil before)), ([], lines_of input, refl, (refl, refl)), λ _. shows.groups)
+    (input, [], start, is_left, is_written ∙ ap (λ (b : List ℕ). Some b) (sym (append-nil before)), ([], lines_of input, refl, (refl, refl)), shows.groups, λ fault. absurd (cc fault))
+
+same_shows : (old new : Desk) (course : Course) → new ≡ old → Shows old course → Shows new course
+same_shows old new course is shows = subst (λ (desk : Desk). Shows desk course) (sym is) shows
+
+same_log : (old new : Desk) (course : Course) → new ≡ old → Shows old course → new.log ≡ groups_of course.commits
+same_log old new course is shows = (same_shows old new course is shows).groups
 
 -- A line ended the run.
 line_ended : (start : Course) (input before : List ℕ) (left written : Option (List ℕ)) (old desk : Desk) (moments : Option (List ℤ))
     (rest out : List ℕ) (course : Course) (ended : List (List ℕ)) (line front : List ℕ) (more : List (List ℕ))
-    → left ≡ Some rest → lines_of input ≡ ended ++ line ∷ more → Run start ended out course → old.log ≡ groups_of course.commits → front ≡ kept line
+    → left ≡ Some rest → lines_of input ≡ ended ++ line ∷ more → Run start ended out course → Shows old course → front ≡ kept line
     → (status : Status) → IsServed course front (before ++ out) written moments old desk (Some status) → Ended start input before left written desk status
-line_ended start input before left written old desk moments rest out course ended line front more is_left lines ran groups is WriteFault served = (
+line_ended start input before left written old desk moments rest out course ended line front more is_left lines ran shows is WriteFault served = (
   rest,
   out ++ served.1,
   served.0,
   is_left,
   served.4 ∙ ap (λ (b : List ℕ). Some b) (append_assoc before out served.1),
   (ended, line, more, course, out, served.1, served.2, lines, ran, stepped course served.0 line front (served.1 ++ served.2) is served.3, refl),
-  λ _. served.5,
+  served.5,
+  λ fault. absurd (cc fault),
 )
-line_ended start input before left written old desk moments rest out course ended line front more is_left lines ran groups is VolumeFault served =
-    (rest, out, course, is_left, served.0, inr (ended, line, more, lines, said line front (command commit) is served.1, ran), λ differs. absurd (differs refl))
-line_ended start input before left written old desk moments rest out course ended line front more is_left lines ran groups is OutOfMemory served =
-    (rest, out, course, is_left, served.0, (ended, line ∷ more, lines, ran), λ _. served.1 ∙ groups)
-line_ended start input before left written old desk moments rest out course ended line front more is_left lines ran groups is Done served = absurd served
-line_ended start input before left written old desk moments rest out course ended line front more is_left lines ran groups is Usage served = absurd served
-line_ended start input before left written old desk moments rest out course ended line front more is_left lines ran groups is ReadFault served = absurd served
-line_ended start input before left written old desk moments rest out course ended line front more is_left lines ran groups is (NotOurs first) served = absurd served
+line_ended start input before left written old desk moments rest out course ended line front more is_left lines ran shows is VolumeFault served =
+    (rest, out, course, is_left, served.0, inr (ended, line, more, lines, said line front (command commit) is served.1, ran), same_log old desk course served.2 shows, λ fault. same_shows old desk course served.2 shows)
+line_ended start input before left written old desk moments rest out course ended line front more is_left lines ran shows is OutOfMemory served =
+    (rest, out, course, is_left, served.0, (ended, line ∷ more, lines, ran), same_log old desk course served.1 shows, λ fault. absurd (cc fault))
+line_ended start input before left written old desk moments rest out course ended line front more is_left lines ran shows is Done served = absurd served
+line_ended start input before left written old desk moments rest out course ended line front more is_left lines ran shows is Usage served = absurd served
+line_ended start input before left written old desk moments rest out course ended line front more is_left lines ran shows is ReadFault served = absurd served
+line_ended start input before left written old desk moments rest out course ended line front more is_left lines ran shows is (Damaged damage) served = absurd served
 
 -- a line ends in the bytes that were taken
 module _ (start : Course) (input before : List ℕ) (left written : Option (List ℕ)) (waiting : Waiting) (desk : Desk) (moments : Option (List ℤ))
@@ -164,7 +171,7 @@ module _ (start : Course) (input before : List ℕ) (left written : Option (List
       ∙ lines_of-fed p.ended (whole ++ 10 ∷ (new.rest ++ rest)) p.no_feeds
       ∙ ap (λ (ls : List (List ℕ)). p.ended ++ ls) (lines_of-line whole (new.rest ++ rest) none) in
       line_ended start input before now written_now desk desk_now moments_now rest p.out p.course p.ended whole line (lines_of (new.rest ++ rest))
-      left_now lines p.ran p.shows.groups is status served
+      left_now lines p.ran p.shows is status served
 
   -- no line ends in them
   pub none_ended : (new : Waiting) → GoesOn waiting (waiting.rest ++ piece) new → Progress start input before now written new desk moments
@@ -204,7 +211,8 @@ module _ (start : Course) (input before : List ℕ) (left written : Option (List
           ap (λ (b : List ℕ). lines_of b) all ∙ lines_of-fed p.ended ((p.partial ++ waiting.rest) ++ p.rest) p.no_feeds,
           p.ran,
         ),
-        λ _. p.shows.groups,
+        p.shows.groups,
+        λ fault. absurd (cc fault),
       )
 
   -- the source failed, when all that was taken was cut
@@ -222,7 +230,8 @@ module _ (start : Course) (input before : List ℕ) (left written : Option (List
         left_now,
         p.written_is,
         (p.taken ++ piece, input_now, subst (λ (ls : List (List ℕ)). Run start ls p.out p.course) (sym ended) p.ran),
-        λ _. p.shows.groups,
+        p.shows.groups,
+        λ fault. absurd (cc fault),
       )
 
   -- the whole input, where the source is at its end
@@ -250,7 +259,8 @@ module _ (start : Course) (input before : List ℕ) (left written : Option (List
           at_end left now p.rest (moved left now p.rest piece p.left_is move).0 p.left_is left_now end,
           subst (λ (ls : List (List ℕ)). Run start ls p.out p.course) (sym lines) p.ran,
         ),
-        λ _. p.shows.groups,
+        p.shows.groups,
+        λ fault. absurd (cc fault),
       )
 
   last_lines : (line : List ℕ) → waiting.rest ≡ [] → piece ≡ [] → IsAtEnd left now → line ≡ waiting.line → 0 < length line → lines_of input ≡ p.ended ++ p.partial ∷ []
@@ -278,7 +288,8 @@ module _ (start : Course) (input before : List ℕ) (left written : Option (List
           at_end left now p.rest (moved left now p.rest piece p.left_is move).0 p.left_is left_now end,
           subst (λ (ls : List (List ℕ)). Run start ls (p.out ++ served.1) served.0) (sym lines) ran,
         ),
-        λ _. served.4.groups,
+        served.4.groups,
+        λ fault. absurd (cc fault),
       )
 
   pub last_stopped : (written_now : Option (List ℕ)) (desk_now : Desk) (moments_now : Option (List ℤ)) (line : List ℕ)
@@ -287,4 +298,4 @@ module _ (start : Course) (input before : List ℕ) (left written : Option (List
       → Ended start input before now written_now desk_now status
   last_stopped written_now desk_now moments_now line spent nothing end is some status served =
       line_ended start input before now written_now desk desk_now moments_now (moved left now p.rest piece p.left_is move).0 p.out p.course p.ended p.partial line []
-      left_now (last_lines line spent nothing end is some) p.ran p.shows.groups (is ∙ p.line_is) status served
+      left_now (last_lines line spent nothing end is some) p.ran p.shows (is ∙ p.line_is) status served
