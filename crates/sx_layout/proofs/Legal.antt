@@ -40,7 +40,7 @@ after_accepted (load value ∷ edits) next state all is =
     let begun : IsWithin next new = record { no_less = omega (arith, is.no_less); limit = done.0; child = all.0 } in
     after_accepted edits next (edited (load value) state) all.2 (subst (IsWithin next) (sym done.1) begun)
 
-is_body : (child : Option Value) → IsChild child → IsBody (body_of child)
+pub is_body : (child : Option Value) → IsChild child → IsBody (body_of child)
 is_body None is = inl refl
 is_body (Some (number literal)) is = inr is
 

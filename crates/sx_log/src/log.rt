@@ -112,6 +112,7 @@ impl Log {
         ensures told { OnOk result (is_some (V.bytes volume.new) ≡ is_some (V.bytes volume.old)) }
         ensures not_added { OnErr result (self.new ≡ self.old) }
         ensures nothing_done { IsErrOf result CommitFault.OutOfMemory → (V.bytes volume.new ≡ V.bytes volume.old) × (V.size volume.new ≡ V.size volume.old) × Keeps (V.bytes volume.new) (V.size volume.new) (V.is_image volume.new) self.new }
+        ensures nothing_meanwhile { IsErrOf result CommitFault.OutOfMemory → IfSome (V.bytes volume.old) (λ _. (image : List ℕ) → V.was_image volume.new (V.moment volume.old) image → HasGroups image self.old) }
         ensures stage { IfErr result (λ fault. (stage : ℕ) → fault ≡ CommitFault.Failed stage → (stage ≡ 1) ⊎ (stage ≡ 2)) }
         ensures first_stage { IsErrOf result (CommitFault.Failed 1) → IfSome (V.bytes volume.old) (λ _. (image : List ℕ) → V.is_image volume.new image → HasGroups image self.old) }
         ensures second_stage { IsErrOf result (CommitFault.Failed 2) → IfSome (V.bytes volume.old) (λ _. (image : List ℕ) → V.is_image volume.new image → HasGroups image self.old ⊎ HasGroups image (self.old ++ group_of time next body.now ∷ [])) }

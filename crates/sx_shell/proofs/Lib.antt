@@ -10,3 +10,5 @@ pub mod Progresses
 pub mod Standing
 pub mod Crashes
 pub mod Starting
+pub mod Meanwhile
+pub mod Outcomes

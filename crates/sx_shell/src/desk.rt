@@ -1,4 +1,4 @@
-ghost use Rattle.std.specs.Prelude.{◌≡◌, ◌≢◌, ◌<◌, ◌≤◌, ◌^◌, [], ℤ, ℕ, List, Option, FitsSigned, length, IfOk, OnOk, OnErr, IsErrOf, is_some};
+ghost use Rattle.std.specs.Prelude.{◌≡◌, ◌≢◌, ◌<◌, ◌≤◌, ◌^◌, [], ℤ, ℕ, List, Option, FitsSigned, length, IfOk, IfSome, OnOk, OnErr, IsErrOf, is_some};
 ghost use Rattle.std.specs.Int.{int_max, w64};
 ghost use Rattle.std.specs.Option.{option_map};
 ghost use Rattle.sx_layout.specs.Damage.{IsBody};
@@ -15,7 +15,7 @@ ghost use Rattle.sx_run.specs.Command.{edit, commit, open_number, ask_text};
 ghost use Rattle.sx_run.specs.Line.{command, no_command, Says};
 ghost use Rattle.sx_run.specs.Run.{Course, Gives, Step, started};
 ghost use Rattle.sx_volume.specs.Images.{Elapses};
-ghost use Rattle.sx_shell.specs.Crash.{During, IsFront, Now};
+ghost use Rattle.sx_tree.specs.Number.{IsNumber};
 
 use crate::line::{Said, parse};
 use crate::reply::{Reply, render};
@@ -57,6 +57,7 @@ pub(crate) struct Desk {
 }
 
 impl Desk {
+    ghost use Rattle.sx_shell.specs.Crash.{During, IsFront, Now};
     ghost use Rattle.sx_shell.specs.Shows.{Shows, Serves, Steps};
 
     /// The desk over the commits of a log, with revision 0 open.
@@ -223,7 +224,8 @@ fn last_child(alloc: Global, log: &Log) -> Result<Option<Literal>, AllocError>
 
 // The number of which this is the text.
 fn child_of(alloc: Global, body: &[u8]) -> Result<Option<Literal>, AllocError>
-    ensures { IfOk result (λ child. IsBody body.now → body.now ≡ body_of (option_map number child)) }
+    ensures text { IfOk result (λ child. IsBody body.now → body.now ≡ body_of (option_map number child)) }
+    ensures number { IfOk result (λ child. IfSome child IsNumber) }
 {
     match Literal::new(alloc, body) {
         Ok(literal) => Ok(Some(literal)),

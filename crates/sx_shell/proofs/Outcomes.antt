@@ -1,0 +1,53 @@
+-- What holds of each outcome of a run.
+use Rattle.std.proofs.Common.{◌≡◌, ◌≢◌, ◌∙◌, ℕ, ℤ, ◌⊎◌, inl, inr, ⊎_elim, List, [], ◌++◌, Option, None, Some, IfSome, refl, ap, sym, subst, append_assoc, append-nil}
+use Rattle.sx_bytes.specs.declared.damage.Damage.{Damage}
+use Rattle.sx_model.specs.Commit.{Commit, IsLegal}
+use Rattle.sx_run.proofs.Legal.{IsLegalCourse, GoesOn, step_legal, run_legal}
+use Rattle.sx_run.specs.Lines.{lines_of, ended_lines_of}
+use Rattle.sx_run.specs.Run.{Course, started}
+use Rattle.sx_shell.specs.Ends.{IsAfterOpening}
+use Rattle.sx_shell.specs.Outcome.{Outcome}
+use Rattle.sx_shell.specs.declared.status.Status.{Status}
+use Rattle.sx_shell.specs.declared.status.Status.TheVariants.{Done, Usage, ReadFault, WriteFault, VolumeFault, Damaged, OutOfMemory}
+
+-- what holds of the bytes where they are told
+pub at_told : {P : List ℕ → Type 0} (bytes : Option (List ℕ)) (image : List ℕ) → bytes ≡ Some image → IfSome bytes P → P image
+at_told {P} bytes image is holds = subst (λ (b : Option (List ℕ)). IfSome b P) is holds
+
+pub started_legal : (commits : List Commit) (moments : Option (List ℤ)) → IsLegal commits → IsLegalCourse (started commits moments)
+started_legal commits moments legal = record { commits = legal; edits = tt }
+
+pub goes_on_same : (course : Course) → GoesOn course course
+goes_on_same course = ([], sym (append-nil course.commits))
+
+at_start : (start end : Course) → end ≡ start → IsLegalCourse start → IsLegalCourse end × GoesOn start end
+at_start start end is legal = subst (λ (course : Course). IsLegalCourse course × GoesOn start course) (sym is) (legal, goes_on_same start)
+
+-- a run ends over legal commits that go on from those at its start
+pub outcome_legal : (start : Course) (input left : List ℕ) (status : Status) (written : List ℕ) (end : Course) → Outcome start input left status written end → IsLegalCourse start
+    → IsLegalCourse end × GoesOn start end
+outcome_legal start input left Done written end out legal = run_legal (lines_of input) start written end legal out.1
+outcome_legal start input left ReadFault written end out legal = run_legal (ended_lines_of out.0) start written end legal out.2
+outcome_legal start input left WriteFault written end out legal =
+    let done = run_legal out.0 start out.4 out.3 legal out.8 in
+    let last = step_legal out.3 out.1 (out.5 ++ out.6) end done.0 out.9 in
+    (last.0, (done.1.0 ++ last.1.0, last.1.1 ∙ ap (λ (commits : List Commit). commits ++ last.1.0) done.1.1 ∙ append_assoc start.commits done.1.0 last.1.0))
+outcome_legal start input left VolumeFault written end (inl none) legal = at_start start end none.1 legal
+outcome_legal start input left VolumeFault written end (inr some) legal = run_legal some.0 start written end legal some.5
+outcome_legal start input left OutOfMemory written end out legal = run_legal out.0 start written end legal out.3
+outcome_legal start input left Usage written end out legal = at_start start end out.1 legal
+outcome_legal start input left (Damaged damage) written end out legal = absurd out
+
+-- a run with no fault was done, or memory ran out
+pub no_fault : (status : Status) → IsAfterOpening status → (status ≡ ReadFault → ⊥) → (status ≡ WriteFault → ⊥) → (status ≡ VolumeFault → ⊥) → (status ≡ Done) ⊎ (status ≡ OutOfMemory)
+no_fault Done after read write volume = inl refl
+no_fault Usage after read write volume = absurd after
+no_fault ReadFault after read write volume = absurd (read refl)
+no_fault WriteFault after read write volume = absurd (write refl)
+no_fault VolumeFault after read write volume = absurd (volume refl)
+no_fault (Damaged damage) after read write volume = absurd after
+no_fault OutOfMemory after read write volume = inr refl
+
+-- no damage is told after the opening
+pub no_damage : (status : Status) (damage : Damage) → IsAfterOpening status → status ≡ Damaged damage → ⊥
+no_damage status damage after is = subst IsAfterOpening is after
