@@ -70,8 +70,13 @@ not_before a b le = by (int_lt a b) refl
 -- no rule on the head of a group that keeps the rules is broken
 head_keeps : (time : ℤ) (next left : ℕ) (group : Group) → IsGroup group → KeepsRules time next group → 17 + length group.body ≤ left → head_breach time next left (head_of group) ≡ None
 head_keeps time next left group is keeps room =
-    rw (not_below left (17 + length group.body) room, not_below group_limit (17 + length group.body) is.size, not_below group.next next keeps.no_less,
-      not_below number_limit group.next keeps.within, not_before group.time time keeps.no_earlier) refl
+    rw (
+      not_below left (17 + length group.body) room,
+      not_below group_limit (17 + length group.body) is.size,
+      not_below group.next next keeps.no_less,
+      not_below number_limit group.next keeps.within,
+      not_before group.time time keeps.no_earlier,
+    ) refl
 
 -- behind these, bytes with a group that keeps the rules break none
 not_broken : (time : ℤ) (next : ℕ) (group : Group) (rest bytes : List ℕ) (breach : Breach) → IsGroup group → KeepsRules time next group → 0 < length rest
@@ -85,16 +90,16 @@ not_broken time next group rest bytes breach is keeps some are breaks =
     elim breaks [
       | inl short ↦ omega (arith, long, parts, size, some, short.0)
       | inr broken ↦
-        let same : broken.1 ≡ head_of group = begins_once bytes broken.1 (head_of group) broken.2 begins in
-        elim broken.3 [
-          | inl some_breach ↦
-            let at : head_breach time next (length bytes) (head_of group) ≡ Some breach = ap (λ (h : Head). head_breach time next (length bytes) h) (sym same) ∙ some_breach in
-            no_breach breach (sym none ∙ at)
-          | inr no_body ↦
-            let body : take broken.1.body (drop 16 bytes) ≡ group.body =
-            ap (λ (h : Head). take h.body (drop 16 bytes)) same ∙ ap (λ (b : List ℕ). take (length group.body) (drop 16 b)) are ∙ body_in group rest in
-            no_body.1 (subst IsBody (sym body) keeps.body)
-        ]
+          let same : broken.1 ≡ head_of group = begins_once bytes broken.1 (head_of group) broken.2 begins in
+          elim broken.3 [
+            | inl some_breach ↦
+                let at : head_breach time next (length bytes) (head_of group) ≡ Some breach = ap (λ (h : Head). head_breach time next (length bytes) h) (sym same) ∙ some_breach in
+                no_breach breach (sym none ∙ at)
+            | inr no_body ↦
+                let body : take broken.1.body (drop 16 bytes) ≡ group.body =
+                ap (λ (h : Head). take h.body (drop 16 bytes)) same ∙ ap (λ (b : List ℕ). take (length group.body) (drop 16 b)) are ∙ body_in group rest in
+                no_body.1 (subst IsBody (sym body) keeps.body)
+          ]
     ]
 
 -- one breach is the first
@@ -125,12 +130,12 @@ no_damage image groups damage (inr held) keep d =
       | inl same ↦ has.closed (first_same has.gate 1 has.behind d.bytes same.1)
       | inr other ↦ elim other [
         | inl more ↦
-          let rest : d.bytes ≡ (group_bytes more.0 ++ opened more.1) ++ has.gate ∷ has.behind = rest_same 1 1 d.bytes _ more.3 in
-          let at = append_assoc (group_bytes more.0) (opened more.1) (has.gate ∷ has.behind) in
-          let long = length-append (opened more.1) (has.gate ∷ has.behind) in
-          not_broken (last_time first_time d.groups) (last_next 1 d.groups) more.0 (opened more.1 ++ has.gate ∷ has.behind) d.bytes d.breach
-          (is_first d.groups more.0 more.1 (subst AreGroups more.2 has.are)) (keep_first first_time 1 d.groups more.0 more.1 (subst (KeepRules first_time 1) more.2 keep))
-          (omega (arith, long)) (rest ∙ at) d.breaks
+            let rest : d.bytes ≡ (group_bytes more.0 ++ opened more.1) ++ has.gate ∷ has.behind = rest_same 1 1 d.bytes _ more.3 in
+            let at = append_assoc (group_bytes more.0) (opened more.1) (has.gate ∷ has.behind) in
+            let long = length-append (opened more.1) (has.gate ∷ has.behind) in
+            not_broken (last_time first_time d.groups) (last_next 1 d.groups) more.0 (opened more.1 ++ has.gate ∷ has.behind) d.bytes d.breach
+            (is_first d.groups more.0 more.1 (subst AreGroups more.2 has.are)) (keep_first first_time 1 d.groups more.0 more.1 (subst (KeepRules first_time 1) more.2 keep))
+            (omega (arith, long)) (rest ∙ at) d.breaks
         | inr more ↦ has.closed (first_same has.gate 1 has.behind _ more.3)
       ]
     ]
@@ -149,12 +154,12 @@ damage_once : (image : List ℕ) (a b : Damage) → IsDamaged image a → IsDama
 damage_once image a b one other =
     elim (fronts one.groups (1 ∷ one.bytes) other.groups (1 ∷ other.bytes) one.are other.are (sym one.image_is ∙ other.image_is)) [
       | inl same ↦
-        let bytes : one.bytes ≡ other.bytes = rest_same 1 1 one.bytes other.bytes same.1 in
-        let also : Breaks (last_time first_time one.groups) (last_next 1 one.groups) one.bytes other.breach =
-        subst (λ (gs : List Group). Breaks (last_time first_time gs) (last_next 1 gs) one.bytes other.breach) (sym same.0)
-        (subst (λ (bs : List ℕ). Breaks (last_time first_time other.groups) (last_next 1 other.groups) bs other.breach) (sym bytes) other.breaks) in
-        let breach = breach_once (last_time first_time one.groups) (last_next 1 one.groups) one.bytes one.breach other.breach one.breaks also in
-        one.damage_is ∙ ap (λ (gs : List Group). damage_at (end_of gs + 1) one.breach) same.0 ∙ ap (λ (x : Breach). damage_at (end_of other.groups + 1) x) breach ∙ sym other.damage_is
+          let bytes : one.bytes ≡ other.bytes = rest_same 1 1 one.bytes other.bytes same.1 in
+          let also : Breaks (last_time first_time one.groups) (last_next 1 one.groups) one.bytes other.breach =
+          subst (λ (gs : List Group). Breaks (last_time first_time gs) (last_next 1 gs) one.bytes other.breach) (sym same.0)
+          (subst (λ (bs : List ℕ). Breaks (last_time first_time other.groups) (last_next 1 other.groups) bs other.breach) (sym bytes) other.breaks) in
+          let breach = breach_once (last_time first_time one.groups) (last_next 1 one.groups) one.bytes one.breach other.breach one.breaks also in
+          one.damage_is ∙ ap (λ (gs : List Group). damage_at (end_of gs + 1) one.breach) same.0 ∙ ap (λ (x : Breach). damage_at (end_of other.groups + 1) x) breach ∙ sym other.damage_is
       | inr more ↦ elim more [
         | inl longer ↦ absurd (damage_past image a b one other longer.0 longer.1 longer.2 longer.3)
         | inr longer ↦ absurd (damage_past image b a other one longer.0 longer.1 longer.2 longer.3)

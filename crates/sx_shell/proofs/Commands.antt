@@ -1,7 +1,7 @@
 -- Lines that spell no command.
 use Rattle.std.proofs.Common.{◌≡◌, ℕ, List, Option, None, Some, IfNone, refl}
 use Rattle.std.specs.Prelude.{codes}
-use Rattle.sx_model.specs.Edit.{Edit, load}
+use Rattle.sx_model.specs.Edit.{load}
 use Rattle.sx_model.specs.Value.{Value}
 use Rattle.sx_run.specs.Command.{Command, Spells, edit, commit, open_number, ask_text}
 

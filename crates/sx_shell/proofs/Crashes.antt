@@ -1,11 +1,10 @@
 -- From the groups of a volume to the commits that it stands for.
-use Rattle.std.proofs.Common.{◌≡◌, ◌≢◌, ◌∙◌, ℕ, ℤ, ◌+◌, ◌<◌, ◌≤◌, ◌⊎◌, inl, inr, ⊎_elim, List, [], ◌∷◌, ◌++◌, length, Option, None, Some, IfSome, refl, ap, sym, subst, append_assoc, append-nil, length-append, arith, FitsSigned, w64}
+use Rattle.std.proofs.Common.{◌≡◌, ◌∙◌, ℕ, ℤ, ◌≤◌, ◌⊎◌, inl, inr, ⊎_elim, List, [], ◌∷◌, ◌++◌, length, Option, refl, ap, sym, subst, append-nil, length-append, arith}
 use Rattle.std.specs.Int.{int_max}
 use Rattle.std.specs.Option.{option_map}
 use Rattle.std.proofs.lemmas.Bool.Decides.{leb_tells}
-use Rattle.sx_layout.specs.Group.{Group, AreGroups, HasGroups, Holds, group_bytes, opened, last_time}
+use Rattle.sx_layout.specs.Group.{Group, HasGroups, Holds, opened, last_time}
 use Rattle.sx_layout.specs.Stands.{Stands, body_of, group_of, groups_from, groups_of}
-use Rattle.sx_layout.proofs.Heads.{length-group_bytes}
 use Rattle.sx_log.specs.Reading.{IsLeft, IsSynced}
 use Rattle.sx_model.specs.Commit.{Commit, AreLegal, IsLegal, first_time}
 use Rattle.sx_model.specs.Edit.{after}
@@ -14,7 +13,7 @@ use Rattle.sx_model.specs.Value.{Value, number}
 use Rattle.sx_run.proofs.Legal.{IsLegalCourse, GoesOn, next_legal}
 use Rattle.sx_run.specs.Run.{Course, current, next_commit}
 use Rattle.sx_shell.proofs.Groups.{groups_from-append, length-groups_from, last_time-groups_from}
-use Rattle.sx_shell.specs.Crash.{IsFront, StandsWithNext, StandsDuring, StandsAtEnd, IsSafe, HasBetween, next_group, HasNext, During, Now}
+use Rattle.sx_shell.specs.Crash.{IsFront, StandsWithNext, StandsDuring, StandsAtEnd, IsSafe, HasBetween, next_group, HasNext}
 use Rattle.sx_shell.specs.Shows.{Shows}
 use Rattle.sx_shell.specs.declared.desk.Desk.{Desk}
 use Rattle.sx_volume.specs.Images.{Elapses}

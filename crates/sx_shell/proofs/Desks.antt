@@ -1,5 +1,5 @@
 -- Steps of the shell's state and of the course that it shows.
-use Rattle.std.proofs.Common.{◌≡◌, ◌≢◌, ◌∙◌, ℕ, suc, ℤ, slice_get, IfSome, ◌+◌, ◌<◌, ◌≤◌, ◌^◌, List, [], ◌∷◌, ◌++◌, length, length-append, Bool, true, false, cond, nat_le, Ok, Err, Some, Option, None, refl, ap, sym, subst, arith, MatchResult, Result, FitsSigned, w64}
+use Rattle.std.proofs.Common.{◌≡◌, ◌≢◌, ◌∙◌, ℕ, suc, ℤ, slice_get, IfSome, ◌+◌, ◌<◌, ◌≤◌, ◌^◌, List, [], ◌∷◌, ◌++◌, length, length-append, Bool, true, false, cond, nat_le, Ok, Err, Some, Option, refl, ap, sym, subst, arith, MatchResult, Result, FitsSigned, w64}
 use Rattle.std.specs.Result.{result_unwrap_or}
 use Rattle.std.proofs.lemmas.Bool.Decides.{nat_tests}
 use Rattle.std.specs.Bool.{MatchBool}
@@ -14,7 +14,7 @@ use Rattle.sx_model.specs.Value.{Value, number}
 use Rattle.sx_outside.specs.Clock.{Ticks}
 use Rattle.sx_run.specs.Command.{edit, commit, open_number}
 use Rattle.sx_run.specs.Line.{command}
-use Rattle.sx_run.specs.Reply.{Reply, reply_bytes, first, committed, opened, edit_refused, missing}
+use Rattle.sx_run.specs.Reply.{reply_bytes, first, committed, opened, edit_refused, missing}
 use Rattle.sx_run.specs.Run.{Course, current, next_commit, Answers, Gives}
 use Rattle.sx_shell.specs.Shows.{HasText, Shows}
 use Rattle.sx_shell.specs.declared.desk.Desk.{Desk}

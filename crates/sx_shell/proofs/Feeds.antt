@@ -1,6 +1,6 @@
 -- Places of line feeds.
-use Rattle.std.proofs.Common.{◌≡◌, ◌≢◌, ◌∙◌, ℕ, zero, suc, ◌+◌, ◌<◌, ◌≤◌, List, [], ◌∷◌, ◌++◌, length, take, drop, get_or, slice_index, refl, ap, sym, subst, arith}
-use Rattle.std.proofs.lemmas.List.{take-append-drop, drop_more, get_or_default}
+use Rattle.std.proofs.Common.{◌≡◌, ◌≢◌, ◌∙◌, ℕ, zero, suc, ◌+◌, ◌<◌, ◌≤◌, List, [], ◌∷◌, ◌++◌, length, take, drop, get_or, ap, sym, arith}
+use Rattle.std.proofs.lemmas.List.{take-append-drop, drop_more}
 use Rattle.sx_run.specs.Lines.{HasNoFeed}
 
 -- no byte below a place is a line feed

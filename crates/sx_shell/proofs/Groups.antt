@@ -1,11 +1,11 @@
 -- Commits, their groups and the states of their revisions.
-use Rattle.std.proofs.Common.{◌≡◌, ◌≢◌, ◌∙◌, ℕ, zero, suc, ℤ, List, [], ◌∷◌, ◌++◌, length, take, slice_get, Some, Option, None, ◌<◌, refl, ap, sym, arith}
+use Rattle.std.proofs.Common.{◌≡◌, ◌≢◌, ℕ, zero, suc, ℤ, List, [], ◌∷◌, ◌++◌, length, take, slice_get, Some, Option, None, ◌<◌, refl, ap, sym, arith}
 use Rattle.sx_layout.specs.Group.{Group, last_time as last_group_time, last_next}
 use Rattle.sx_layout.specs.Stands.{body_of, group_of, groups_from}
 use Rattle.sx_model.specs.Commit.{Commit, replay, last_time}
 use Rattle.sx_model.specs.Edit.{Edit, after, edited}
 use Rattle.sx_model.specs.State.{State}
-use Rattle.sx_model.specs.Value.{Value, text_of}
+use Rattle.sx_model.specs.Value.{Value}
 use Rattle.sx_run.specs.Reply as run
 use Rattle.sx_run.specs.Run.{text_reply}
 use Rattle.sx_shell.specs.Shows.{HasText}

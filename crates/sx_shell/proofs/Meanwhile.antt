@@ -1,5 +1,5 @@
 -- What a crash leaves over several lines.
-use Rattle.std.proofs.Common.{◌≡◌, ◌∙◌, ℕ, ◌≤◌, ◌⊎◌, inl, inr, ⊎_elim, List, [], ◌++◌, Option, None, Some, IfSome, is_some, Bool, true, false, ap, sym, subst, append_assoc, append-nil}
+use Rattle.std.proofs.Common.{◌≡◌, ◌∙◌, ℕ, ◌≤◌, inl, inr, ⊎_elim, List, [], ◌++◌, Option, None, Some, IfSome, is_some, ap, sym, append_assoc, append-nil}
 use Rattle.std.proofs.lemmas.Bool.{false≢true}
 use Rattle.sx_layout.specs.Group.{Group, HasGroups}
 use Rattle.sx_shell.specs.Crash.{IsFront, HasBetween, HasNext, During, Now}
@@ -27,18 +27,18 @@ during_then None now start mid end first second old desk new failed told le time
 during_then (Some all) None start mid end first second old desk new failed told le time grew grows before line = absurd (false≢true told)
 during_then (Some all) (Some now) start mid end first second old desk new failed told le time grew grows before line =
     λ image left.
-        ⊎_elim
-        (λ (earlier : first start image).
-            ⊎_elim
-            (λ (between : HasBetween old.log desk.log image). inl (between.0, between.1, front_then between.0 desk.log new.log between.2 grows, between.3))
-            (λ (never : ⊥ × HasNext desk image). absurd never.0)
-            (before image earlier))
-        (λ (here : second mid image).
-            ⊎_elim
-            (λ (between : HasBetween desk.log new.log image). inl (between.0, front_then old.log desk.log between.0 grew between.1, between.2, between.3))
-            (λ (next : failed × HasNext new image). inr next)
-            (line image here))
-        (time.nothing_else start image le left)
+    ⊎_elim
+    (λ (earlier : first start image).
+    ⊎_elim
+    (λ (between : HasBetween old.log desk.log image). inl (between.0, between.1, front_then between.0 desk.log new.log between.2 grows, between.3))
+    (λ (never : ⊥ × HasNext desk image). absurd never.0)
+    (before image earlier))
+    (λ (here : second mid image).
+    ⊎_elim
+    (λ (between : HasBetween desk.log new.log image). inl (between.0, front_then old.log desk.log between.0 grew between.1, between.2, between.3))
+    (λ (next : failed × HasNext new image). inr next)
+    (line image here))
+    (time.nothing_else start image le left)
 
 pub during_weaker : (bytes : Option (List ℕ)) (since : List ℕ → Type 0) (old new : Desk) (failed ended : Type 0) → (failed → ended) → During bytes since old new failed → During bytes since old new ended
 during_weaker None since old new failed ended step during = tt

@@ -1,18 +1,26 @@
 -- What holds of each outcome of a run.
-use Rattle.std.proofs.Common.{◌≡◌, ◌≢◌, ◌∙◌, ℕ, ℤ, ◌⊎◌, inl, inr, ⊎_elim, List, [], ◌++◌, Option, None, Some, IfSome, refl, ap, sym, subst, append_assoc, append-nil}
+use Rattle.std.proofs.Common.{◌≡◌, ◌∙◌, ◌≤◌, ℕ, ℤ, ◌⊎◌, is_some, inl, inr, List, [], ◌++◌, Option, None, Some, IfSome, refl, ap, sym, subst, append_assoc, append-nil}
 use Rattle.sx_bytes.specs.declared.damage.Damage.{Damage}
+use Rattle.std.proofs.lemmas.Bool.{false≢true}
+use Rattle.sx_layout.specs.Stands.{Stands}
+use Rattle.sx_log.specs.Reading.{IsOther, IsSynced}
+use Rattle.sx_log.specs.declared.fault.LogFault.{LogFault}
+use Rattle.sx_log.specs.declared.fault.LogFault.TheVariants as log
 use Rattle.sx_model.specs.Commit.{Commit, IsLegal}
 use Rattle.sx_run.proofs.Legal.{IsLegalCourse, GoesOn, step_legal, run_legal}
 use Rattle.sx_run.specs.Lines.{lines_of, ended_lines_of}
 use Rattle.sx_run.specs.Run.{Course, started}
+use Rattle.sx_shell.proofs.Crashes.{safe_none}
+use Rattle.sx_shell.specs.Crash.{IsBeforeSync, IsSafe, IsUnopened}
+use Rattle.sx_volume.specs.Images.{IsWithin}
 use Rattle.sx_shell.specs.Ends.{IsAfterOpening}
 use Rattle.sx_shell.specs.Outcome.{Outcome}
 use Rattle.sx_shell.specs.declared.status.Status.{Status}
 use Rattle.sx_shell.specs.declared.status.Status.TheVariants.{Done, Usage, ReadFault, WriteFault, VolumeFault, Damaged, OutOfMemory}
 
 -- what holds of the bytes where they are told
-pub at_told : {P : List ℕ → Type 0} (bytes : Option (List ℕ)) (image : List ℕ) → bytes ≡ Some image → IfSome bytes P → P image
-at_told {P} bytes image is holds = subst (λ (b : Option (List ℕ)). IfSome b P) is holds
+pub at_told : (P : List ℕ → Type 0) (bytes : Option (List ℕ)) (image : List ℕ) → bytes ≡ Some image → IfSome bytes P → P image
+at_told P bytes image is holds = subst (λ (b : Option (List ℕ)). IfSome b P) is holds
 
 pub started_legal : (commits : List Commit) (moments : Option (List ℤ)) → IsLegal commits → IsLegalCourse (started commits moments)
 started_legal commits moments legal = record { commits = legal; edits = tt }
@@ -51,3 +59,25 @@ no_fault OutOfMemory after read write volume = inr refl
 -- no damage is told after the opening
 pub no_damage : (status : Status) (damage : Damage) → IsAfterOpening status → status ≡ Damaged damage → ⊥
 no_damage status damage after is = subst IsAfterOpening is after
+
+-- what holds where bytes are told, which are told where those at the start are
+pub when_told : (P : Type 0) (bytes now : Option (List ℕ)) (image : List ℕ) → bytes ≡ Some image → is_some now ≡ is_some bytes → IfSome now (λ _. P) → P
+when_told P bytes None image is told holds = absurd (false≢true (told ∙ ap (λ (b : Option (List ℕ)). is_some b) is))
+when_told P bytes (Some all) image is told holds = holds
+
+-- the opening was refused
+pub refused : (start : Course) (status : Status) (failed : Type 0) (image : List ℕ) (first last : ℕ) (before is_image : List ℕ → Type 0) (was : ℕ → List ℕ → Type 0)
+    → Stands image start.commits → IsBeforeSync status → ((t : ℕ) (c : List ℕ) → t ≤ last → is_image c → was t c) → IsSynced image first last before was ⊎ IsWithin before (was first)
+    → IsSafe start start failed first last before is_image was ⊎ IsUnopened start start status [] first before was
+refused start status failed image first last before is_image was stands early counts_now (inl synced) =
+    inl (safe_none start failed image first last before is_image was stands synced counts_now)
+refused start status failed image first last before is_image was stands early counts_now (inr within) =
+    inr (record { early = early; no_line = refl; no_reply = refl; images = within })
+
+pub not_other : (fault : LogFault) (damage : Damage) → fault ≡ log.Damaged damage → IsOther fault → ⊥
+not_other fault damage is (inl failed) = cc (is, failed)
+not_other fault damage is (inr memory) = cc (is, memory)
+
+pub found_damage : (fault : LogFault) (found damage : Damage) → fault ≡ log.Damaged found → (fault ≡ log.Damaged damage) ⊎ IsOther fault → found ≡ damage
+found_damage fault found damage is (inl same) = cc (is, same)
+found_damage fault found damage is (inr other) = absurd (not_other fault found is other)

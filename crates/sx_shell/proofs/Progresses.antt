@@ -1,10 +1,10 @@
 -- How a run goes on and ends.
-use Rattle.std.proofs.Common.{◌≡◌, ◌≢◌, ◌∙◌, ℕ, ℤ, ◌+◌, ◌<◌, ◌≤◌, ◌⊎◌, inl, inr, List, [], ◌∷◌, ◌++◌, length, take, Option, None, Some, IfSome, refl, ap, sym, subst, append_assoc, append-nil, arith}
+use Rattle.std.proofs.Common.{◌≡◌, ◌∙◌, ℕ, ℤ, ◌<◌, ◌≤◌, ◌⊎◌, inl, inr, List, [], ◌∷◌, ◌++◌, length, take, Option, None, Some, IfSome, refl, ap, sym, subst, append_assoc, append-nil, arith}
 use Rattle.std.proofs.lemmas.Bool.Decides.{leb_tells}
 use Rattle.sx_layout.specs.Stands.{groups_of}
 use Rattle.sx_run.specs.Command.{commit}
 use Rattle.sx_run.specs.Line.{Item, command, Says}
-use Rattle.sx_run.specs.Lines.{lines_of, ended_lines_of, HasNoFeed, HaveNoFeeds, fed}
+use Rattle.sx_run.specs.Lines.{lines_of, ended_lines_of, HasNoFeed, fed}
 use Rattle.sx_run.specs.Run.{Course, Step, Run}
 use Rattle.sx_run.proofs.Cutting.{HasNoFeed-append, HaveNoFeeds-append, fed-append, lines_of-line, lines_of-rest, lines_of-fed, ended_lines_of-fed}
 use Rattle.sx_run.proofs.Runs.{Run-append, Says-kept, Step-kept}

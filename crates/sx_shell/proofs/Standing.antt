@@ -1,5 +1,5 @@
 -- What a volume stands for after a run.
-use Rattle.std.proofs.Common.{◌≡◌, ◌∙◌, ℕ, List, Option, None, Some, IfSome, is_some, refl, ap, sym, subst}
+use Rattle.std.proofs.Common.{◌≡◌, ◌∙◌, ℕ, List, Option, None, Some, IfSome, is_some, refl, ap, subst}
 use Rattle.std.proofs.lemmas.Bool.{false≢true}
 use Rattle.sx_layout.specs.Group.{Group, HasGroups}
 use Rattle.sx_layout.specs.Stands.{Stands, groups_of}

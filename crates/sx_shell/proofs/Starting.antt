@@ -1,5 +1,5 @@
 -- The desk over the commits of a volume.
-use Rattle.std.proofs.Common.{◌≡◌, ◌≢◌, ◌∙◌, ℕ, zero, suc, ℤ, ◌-◌, ◌<◌, List, [], ◌∷◌, ◌++◌, length, take, slice_get, Option, None, Some, IfSome, refl, ap, sym, subst, arith}
+use Rattle.std.proofs.Common.{◌≡◌, ◌∙◌, ℕ, zero, suc, ℤ, List, [], ◌∷◌, ◌++◌, length, take, slice_get, Option, None, Some, IfSome, refl, ap, sym, subst, arith}
 use Rattle.std.specs.Option.{option_map}
 use Rattle.std.proofs.lemmas.List.{take_all}
 use Rattle.sx_layout.specs.Damage.{IsBody}
@@ -9,7 +9,7 @@ use Rattle.sx_layout.proofs.Legal.{IsChild, IsWithin, after_accepted, begins_wit
 use Rattle.sx_model.specs.Commit.{Commit, AreLegal, IsLegal, replay, state_of, first_time}
 use Rattle.sx_model.specs.Edit.{after}
 use Rattle.sx_model.specs.State.{State, empty_document}
-use Rattle.sx_model.specs.Value.{Value, number, text_of}
+use Rattle.sx_model.specs.Value.{Value, number}
 use Rattle.sx_run.specs.Run.{started}
 use Rattle.sx_tree.specs.Number.{IsInt, IsNumber}
 use Rattle.sx_shell.proofs.Groups.{body_at, last_next-groups_from, slice_get-within, length-groups_from}

@@ -1,5 +1,5 @@
 -- Carriage returns.
-use Rattle.std.proofs.Common.{◌≡◌, ◌≢◌, ◌∙◌, ℕ, suc, ◌+◌, ◌<◌, ◌⊎◌, inl, inr, List, [], ◌∷◌, length, take, get_or, Bool, true, false, cond, nat_eq, refl, ap, sym, subst, arith}
+use Rattle.std.proofs.Common.{◌≡◌, ◌≢◌, ◌∙◌, ℕ, suc, ◌+◌, inl, inr, List, [], ◌∷◌, length, take, get_or, Bool, false, cond, nat_eq, refl, ap, sym, subst, arith}
 use Rattle.std.proofs.lemmas.Bool.Decides.{eqb_tells}
 use Rattle.sx_run.specs.Line.{without_return}
 

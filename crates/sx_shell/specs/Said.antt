@@ -1,5 +1,5 @@
 -- What the shell reads in a line.
-use Rattle.std.specs.Prelude.{ℕ, ◌≡◌, List}
+use Rattle.std.specs.Prelude.{ℕ, List}
 use Rattle.sx_model.specs.Edit.{load}
 use Rattle.sx_model.specs.Value.{number}
 use Rattle.sx_run.specs.Command.{Command, Spells, edit, commit, open_number, ask_text}

@@ -3,7 +3,6 @@ use Rattle.std.specs.Prelude.{ℕ, ℤ, ◌≡◌, ◌≢◌, ◌≤◌, List, [
 use Rattle.std.specs.Option.{option_map}
 use Rattle.sx_layout.specs.Stands.{groups_of}
 use Rattle.sx_model.specs.Commit.{state_of}
-use Rattle.sx_model.specs.State.{State}
 use Rattle.sx_model.specs.Value.{Value, number, text_of}
 use Rattle.sx_run.specs.Run.{Course, current}
 use Rattle.sx_shell.specs.declared.desk.Desk.{Desk}

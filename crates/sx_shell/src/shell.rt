@@ -50,13 +50,13 @@ pub fn run_live<R: Wait, V: Volume, S: Source, K: Sink, C: Clock, G: Gate>(
     requires { vec_len ends.old ≡ 32 }
 
     // Over a volume that stands for some commits, the bytes written are those of a run that begins over these, over the
-    // script's lines, as far as the status says, and the volume then stands for the commits of that run.
+    // script's lines, as far as the status says, and the volume then stands for the commits of that run. A crash at any
+    // moment leaves commits of that run.
     ensures run { (image input before : List ℕ) (commits : List Commit) → V.bytes volume.old ≡ Some image → Stands image commits
         → S.left source.old ≡ Some input → K.written sink.old ≡ Some before
         → (left written : List ℕ) × (end : Course) × (S.left source.new ≡ Some left) × (K.written sink.new ≡ Some (before ++ written))
         × Outcome (started commits (C.moments clock.old)) input left result written end
         × (result ≢ Status.VolumeFault → (final : List ℕ) × (V.bytes volume.new ≡ Some final) × Stands final end.commits)
-        // A crash at any moment leaves commits of that run.
         × (IsSafe (started commits (C.moments clock.old)) end (result ≡ Status.VolumeFault) (V.moment volume.old) (V.moment volume.new) (V.is_image volume.old) (V.is_image volume.new) (V.was_image volume.new)
         ⊎ IsUnopened (started commits (C.moments clock.old)) end result written (V.moment volume.old) (V.is_image volume.old) (V.was_image volume.new)) }
 

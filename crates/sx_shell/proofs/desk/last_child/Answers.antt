@@ -1,4 +1,4 @@
-use Rattle.std.proofs.Common.{◌≡◌, ◌-◌, suc, ℕ, List, Option, IfSome, length, sym, arith, ◌∙◌, Result, Ok, Err, IfOk, Global}
+use Rattle.std.proofs.Common.{◌≡◌, ◌-◌, ℕ, List, Option, IfSome, arith, Result, Ok, Err, IfOk}
 use Rattle.std.specs.Option.{option_map}
 use Rattle.sx_layout.specs.Damage.{IsBody}
 use Rattle.sx_layout.specs.Group.{Group}
@@ -27,4 +27,4 @@ returns c =
     (λ (child : Option (List ℕ)). (commits : List Commit) → log ≡ groups_of commits → IsLegal commits → option_map number child ≡ (replay commits empty_document).child)
     c.child_of.result c.child_of.ensures.text c.child_of.ensures.number
     (λ child is numbers. λ commits shows legal.
-        starting.last_child commits log index child body shows legal (grind (arith, c.count-count.ensures.value, c.if-count-eq0.false)) c.body.ensures is numbers)
+    starting.last_child commits log index child body shows legal (grind (arith, c.count-count.ensures.value, c.if-count-eq0.false)) c.body.ensures is numbers)

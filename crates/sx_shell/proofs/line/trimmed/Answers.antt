@@ -1,4 +1,4 @@
-use Rattle.std.proofs.Common.{◌≡◌, ◌<◌, ◌≤◌, ◌-◌, ◌+◌, length, arith, List, [], ◌∷◌, ℕ, refl}
+use Rattle.std.proofs.Common.{◌≡◌, ◌-◌, length, arith, List, [], ◌∷◌, ℕ, refl}
 use Rattle.sx_shell.proofs.Trimmed.{without_return-at, without_return-other}
 use Rattle.sx_run.specs.Line.{without_return}
 use Rattle.sx_shell.proofs.line.trimmed.Goals as goal

@@ -1,6 +1,6 @@
-use Rattle.std.proofs.Common.{◌≡◌, ◌≢◌, ◌∙◌, ℕ, ◌≤◌, ◌<◌, ◌+◌, ◌++◌, ◌∷◌, List, Option, None, Some, IfSome, IfNone, take, drop, length, get_or, arith, true, nat_eq}
+use Rattle.std.proofs.Common.{◌≡◌, ℕ, ◌+◌, ◌++◌, ◌∷◌, List, Option, None, Some, IfSome, IfNone, take, drop, get_or, arith}
 use Rattle.std.proofs.lemmas.Bool.{eqb-true, eq-eqb}
-use Rattle.memchr.specs.Find.{IsFirstByte, is_byte, Passes}
+use Rattle.memchr.specs.Find.{IsFirstByte, is_byte}
 use Rattle.sx_run.specs.Lines.{HasNoFeed}
 use Rattle.sx_shell.proofs.Feeds.{HasNoFeed-take, HasNoFeed-all, split_at}
 use Rattle.sx_shell.proofs.reader.feed_at.Goals as goal

@@ -1,9 +1,7 @@
 use Rattle.std.proofs.Common.{◌++◌, ℕ, List, [], Some, None, subst, refl}
-use Rattle.sx_shell.specs.Progress.{Progress}
 use Rattle.sx_shell.specs.Served.{IsServed}
 use Rattle.sx_shell.specs.Waiting.{Waiting, waiting, IsPulled}
 use Rattle.sx_shell.specs.declared.reader.Pulled.{Pulled}
-use Rattle.sx_shell.specs.declared.status.Status.{Status}
 use Rattle.sx_shell.proofs.Progresses.{line_run, none_ended, read_stopped, read_failed, all_done, last_run, last_stopped}
 use Rattle.sx_shell.proofs.shell.advance.Goals as goal
 

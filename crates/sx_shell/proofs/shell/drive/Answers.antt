@@ -43,7 +43,7 @@ loop-preserved g c =
       kept = c.advance.ensures.kept (none_failed c.advance.result none);
       told = c.advance.ensures.told (none_failed c.advance.result none) ∙ c.loop.invariant.told;
       during = during_then (g.V.Volume.bytes c.args.volume.now) (g.V.Volume.bytes c.loop.volume) (g.V.Volume.moment c.args.volume.now) (g.V.Volume.moment c.loop.volume) (g.V.Volume.moment c.advance.new.volume)
-    (g.V.Volume.was_image c.loop.volume) (g.V.Volume.was_image c.advance.new.volume) c.args.desk.now c.loop.desk c.advance.new.desk ⊥
+          (g.V.Volume.was_image c.loop.volume) (g.V.Volume.was_image c.advance.new.volume) c.args.desk.now c.loop.desk c.advance.new.desk ⊥
           c.loop.invariant.told c.loop.invariant.time.later c.advance.ensures.time c.loop.invariant.grows c.advance.ensures.grows c.loop.invariant.during
           (during_weaker (g.V.Volume.bytes c.loop.volume) (g.V.Volume.was_image c.advance.new.volume (g.V.Volume.moment c.loop.volume)) c.loop.desk c.advance.new.desk
           (c.advance.result ≡ Some VolumeFault) ⊥ (none_failed c.advance.result none) c.advance.ensures.during);

@@ -1,5 +1,4 @@
-use Rattle.std.proofs.Common.{◌≡◌, ◌-◌, suc, ℕ, List, IfSome, slice_get, subst, arith}
-use Rattle.sx_layout.specs.Group.{Group}
+use Rattle.std.proofs.Common.{◌≡◌, ◌-◌, suc, ℕ, arith}
 use Rattle.sx_shell.proofs.Desks.{opened_body}
 use Rattle.sx_shell.proofs.desk.Desk.body.Goals as goal
 

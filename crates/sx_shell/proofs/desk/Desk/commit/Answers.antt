@@ -1,6 +1,5 @@
-use Rattle.std.proofs.Common.{◌≡◌, ◌∙◌, ◌+◌, ◌++◌, ◌∷◌, [], ℕ, ℤ, List, Option, length, ap, sym, refl, rules, w64, FitsSigned, to_z, of_z}
+use Rattle.std.proofs.Common.{◌≡◌, ◌∙◌, ◌+◌, ◌++◌, ◌∷◌, [], ℕ, ℤ, ap, refl, rules, w64, FitsSigned, to_z, of_z}
 use Rattle.std.proofs.lemmas.Int.{to_z-of_z}
-use Rattle.sx_layout.specs.Group.{Group}
 use Rattle.sx_run.specs.Reply.{reply_bytes, committed}
 use Rattle.sx_shell.proofs.Desks.{commits_edits}
 use Rattle.sx_shell.proofs.desk.Desk.commit.Goals as goal

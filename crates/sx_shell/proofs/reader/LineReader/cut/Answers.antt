@@ -1,6 +1,6 @@
-use Rattle.std.proofs.Common.{◌≡◌, ◌∙◌, ◌+◌, ◌<◌, length, slice_range, ◌++◌, ◌∷◌, List, ℕ, Vec, Global, take, drop, ap, sym, subst}
+use Rattle.std.proofs.Common.{◌≡◌, ◌∙◌, ◌+◌, ◌<◌, length, slice_range, ◌++◌, ◌∷◌, List, ℕ, Vec, Global, take, drop, ap, subst}
 use Rattle.sx_run.specs.Lines.{HasNoFeed}
-use Rattle.sx_shell.specs.Waiting.{kept, waiting}
+use Rattle.sx_shell.specs.Waiting.{kept}
 use Rattle.sx_shell.proofs.Pulling.{found_in_chunk, spent_chunk}
 use Rattle.sx_shell.proofs.reader.LineReader.cut.Goals as goal
 

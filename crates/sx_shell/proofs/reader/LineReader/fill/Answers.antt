@@ -1,4 +1,4 @@
-use Rattle.std.proofs.Common.{◌≡◌, ◌≤◌, ◌∙◌, List, ℕ, nat_lt, false, take, drop, length, ◌++◌, slice_range, [], ap, refl, arith}
+use Rattle.std.proofs.Common.{◌≡◌, ◌∙◌, List, ℕ, nat_lt, false, take, drop, length, ◌++◌, slice_range, [], ap, refl, arith}
 use Rattle.std.proofs.lemmas.Bool.Decides.{nat_tests}
 use Rattle.sx_shell.proofs.Pulling.{taken_none}
 use Rattle.sx_shell.proofs.reader.LineReader.fill.Goals as goal
