@@ -1,19 +1,20 @@
 -- From the groups of a volume to the commits that it stands for.
-use Rattle.std.proofs.Common.{◌≡◌, ◌∙◌, ℕ, ℤ, ◌≤◌, ◌⊎◌, inl, inr, ⊎_elim, List, [], ◌∷◌, ◌++◌, length, Option, refl, ap, sym, subst, append-nil, length-append, arith}
+use Rattle.std.proofs.Common.{◌≡◌, ◌∙◌, ℕ, ℤ, ◌≤◌, ◌⊎◌, inl, inr, ⊎_elim, List, [], ◌∷◌, ◌++◌, length, Option, refl, ap, sym, subst, append_assoc, append-nil, length-append, arith}
 use Rattle.std.specs.Int.{int_max}
 use Rattle.std.specs.Option.{option_map}
 use Rattle.std.proofs.lemmas.Bool.Decides.{leb_tells}
+use Rattle.std.proofs.lemmas.List.{append_cancel_left}
 use Rattle.sx_layout.specs.Group.{Group, HasGroups, Holds, opened, last_time}
 use Rattle.sx_layout.specs.Stands.{Stands, body_of, group_of, groups_from, groups_of}
 use Rattle.sx_log.specs.Reading.{IsLeft, IsSynced}
-use Rattle.sx_model.specs.Commit.{Commit, AreLegal, IsLegal, first_time}
+use Rattle.sx_model.specs.Commit.{Commit, AreLegal, IsLegal, first_time, replay}
 use Rattle.sx_model.specs.Edit.{after}
 use Rattle.sx_model.specs.State.{State, empty_document}
 use Rattle.sx_model.specs.Value.{Value, number}
 use Rattle.sx_run.proofs.Legal.{IsLegalCourse, GoesOn, next_legal}
 use Rattle.sx_run.specs.Run.{Course, current, next_commit}
-use Rattle.sx_shell.proofs.Groups.{groups_from-append, length-groups_from, last_time-groups_from}
-use Rattle.sx_shell.specs.Crash.{IsFront, StandsWithNext, StandsDuring, StandsAtEnd, IsSafe, HasBetween, next_group, HasNext}
+use Rattle.sx_shell.proofs.Groups.{groups_from-append, length-groups_from, last_time-groups_from, replay-append}
+use Rattle.sx_shell.specs.Crash.{Climbs, IsFront, StandsWithNext, StandsDuring, StandsAtEnd, IsSafe, HasBetween, next_group, HasNext}
 use Rattle.sx_shell.specs.Shows.{Shows}
 use Rattle.sx_shell.specs.declared.desk.Desk.{Desk}
 use Rattle.sx_volume.specs.Images.{Elapses}
@@ -98,14 +99,67 @@ left_stands image c commits stands (inr short) = (stands.0, by stands.1)
     by (inl none) = inl (short.1, none.1)
     by (inr long) = absurd (omega (arith, long.0, short.0))
 
+-- From an earlier moment on, from which each image stands for the same.
+climbs_earlier : {A : Type 0} (stands : List A → List ℕ → Type 0) (other : List ℕ → Type 0) (was : ℕ → List ℕ → Type 0) (from mid now : ℕ) (these more : List A)
+    → from ≤ mid → ((image : List ℕ) → was from image → stands these image ⊎ was mid image) → Climbs stands other was mid now these more → Climbs stands other was from now these more
+climbs_earlier stands other was from mid now these [] le step climbs =
+    (omega (arith, le, climbs.0), λ image left. ⊎_elim (λ (has : stands these image). inl has) (λ (later : was mid image). climbs.1 image later) (step image left))
+climbs_earlier stands other was from mid now these (x ∷ more) le step climbs =
+    (climbs.0, omega (arith, le, climbs.1), λ image left. ⊎_elim (λ (has : stands these image). inl has) (λ (later : was mid image). climbs.2 image later) (step image left), climbs.3)
+
+groups_from-split : (cs ks : List Commit) (state : State) → groups_from state (cs ++ ks) ≡ groups_from state cs ++ groups_from (replay cs state) ks
+groups_from-split [] ks state = refl
+groups_from-split (commit ∷ cs) ks state = ap (λ (groups : List Group). group_of commit (after commit.edits state) ∷ groups) (groups_from-split cs ks (after commit.edits state))
+
+-- where groups come one after another, so do their commits
+climbs_commits : (other ended : List ℕ → Type 0) (was : ℕ → List ℕ → Type 0) (from now : ℕ) (cs ks : List Commit) → IsLegal (cs ++ ks) → ((image : List ℕ) → other image → ended image)
+    → Climbs (λ groups image. HasGroups image groups) other was from now (groups_of cs) (groups_from (replay cs empty_document) ks)
+    → Climbs (λ commits image. Stands image commits) ended was from now cs ks
+climbs_commits other ended was from now cs [] legal step climbs =
+    let here : IsLegal cs = legal_front cs [] first_time empty_document legal in (
+      climbs.0,
+      λ image left. ⊎_elim (λ (has : HasGroups image (groups_of cs)). inl (here, holds image (groups_of cs) has)) (λ (o : other image). inr (step image o)) (climbs.1 image left),
+    )
+climbs_commits other ended was from now cs (k ∷ ks) legal step climbs =
+    let state : State = replay cs empty_document in
+    let group : Group = group_of k (after k.edits state) in
+    let here : IsLegal cs = legal_front cs (k ∷ ks) first_time empty_document legal in
+    let rest : IsLegal ((cs ++ k ∷ []) ++ ks) = subst (λ (commits : List Commit). IsLegal commits) (sym (append_assoc cs (k ∷ []) ks)) legal in
+    let next : IsLegal (cs ++ k ∷ []) = legal_front (cs ++ k ∷ []) ks first_time empty_document rest in
+    let groups : groups_of (cs ++ k ∷ []) ≡ groups_of cs ++ group ∷ [] = groups_from-append cs k empty_document in
+    let now_state : replay (cs ++ k ∷ []) empty_document ≡ after k.edits state = replay-append cs k empty_document in
+    let on : Climbs (λ gs image. HasGroups image gs) other was climbs.0 now (groups_of (cs ++ k ∷ [])) (groups_from (replay (cs ++ k ∷ []) empty_document) ks) =
+    subst (λ (gs : List Group). Climbs (λ list image. HasGroups image list) other was climbs.0 now gs (groups_from (replay (cs ++ k ∷ []) empty_document) ks)) (sym groups)
+    (subst (λ (s : State). Climbs (λ list image. HasGroups image list) other was climbs.0 now (groups_of cs ++ group ∷ []) (groups_from s ks)) (sym now_state) climbs.3) in (
+      climbs.0,
+      climbs.1,
+      λ image left.
+          ⊎_elim (λ (has : HasGroups image (groups_of cs)). inl (here, holds image (groups_of cs) has))
+          (λ (more : HasGroups image (groups_of cs ++ group ∷ []) ⊎ was climbs.0 image).
+          ⊎_elim
+          (λ (one : HasGroups image (groups_of cs ++ group ∷ [])).
+          inr (inl (next, holds image (groups_of (cs ++ k ∷ [])) (subst (λ (gs : List Group). HasGroups image gs) (sym groups) one))))
+          (λ (later : was climbs.0 image). inr (inr later)) more)
+          (climbs.2 image left),
+      climbs_commits other ended was climbs.0 now (cs ++ k ∷ []) ks rest step on,
+    )
+
+-- The groups that came are those of the commits that came.
+came : (start end : Course) (old new more : List Group) (commits : List Commit) → old ≡ groups_of start.commits → new ≡ groups_of end.commits → end.commits ≡ start.commits ++ commits → new ≡ old ++ more
+    → more ≡ groups_from (replay start.commits empty_document) commits
+came start end old new more commits shows_old shows_new on grew =
+    append_cancel_left (groups_of start.commits) more (groups_from (replay start.commits empty_document) commits)
+    (ap (λ (list : List Group). list ++ more) (sym shows_old) ∙ sym grew ∙ shows_new ∙ ap (λ (list : List Commit). groups_of list) on ∙ groups_from-split start.commits commits empty_document)
+
 -- The opening came to the success of its sync, and then a script ran.
 pub safe_run : (start end : Course) (failed : Type 0) (image : List ℕ) (first mid last : ℕ) (before is_image : List ℕ → Type 0) (was is : ℕ → List ℕ → Type 0) (old new : Desk)
     → Stands image start.commits → IsSynced image first mid before was → Elapses mid last was is
     → old.log ≡ groups_of start.commits → new.log ≡ groups_of end.commits → (failed → Shows new end) → IsLegalCourse end → GoesOn start end
     → ((c : List ℕ) → is mid c → HasBetween old.log new.log c ⊎ (failed × HasNext new c))
     → ((c : List ℕ) → is_image c → HasGroups c new.log ⊎ (failed × HasNext new c))
+    → (more : List Group) × (new.log ≡ old.log ++ more) × Climbs (λ groups c. HasGroups c groups) (λ c. failed × HasNext new c) is mid last old.log more
     → IsSafe start end failed first last before is_image is
-safe_run start end failed image first mid last before is_image was is old new stands synced time shows_old shows_new shows legal on during now = record {
+safe_run start end failed image first mid last before is_image was is old new stands synced time shows_old shows_new shows legal on during now climbs = record {
   moment = synced.moment;
   no_earlier = synced.no_earlier;
   no_later = omega (arith, synced.no_later, time.later);
@@ -119,9 +173,23 @@ safe_run start end failed image first mid last before is_image was is old new st
       (λ (earlier : was synced.moment c). inl (start.commits, ([], sym (append-nil start.commits)), on, left_stands image c start.commits stands (synced.since c earlier)))
       (λ (here : is mid c). by c (during c here))
       (time.nothing_else synced.moment c synced.no_later left);
+  new = on.0;
+  commits = on.1;
+  held = climbs_earlier (λ commits c. Stands c commits) (λ c. failed × StandsWithNext end c) is synced.moment mid last start.commits on.0 synced.no_later
+      (λ c left.
+      ⊎_elim (λ (earlier : was synced.moment c). inl (left_stands image c start.commits stands (synced.since c earlier))) (λ (here : is mid c). inr here)
+      (time.nothing_else synced.moment c synced.no_later left))
+      (climbs_commits (λ c. failed × HasNext new c) (λ c. failed × StandsWithNext end c) is mid last start.commits on.0
+      (subst (λ (commits : List Commit). IsLegal commits) on.1 legal.commits) (λ c next. (next.0, next_stands new end c (shows next.0) legal next.1)) shown);
   at_end = λ c left. at c (now c left);
 }
   where
+    shown : Climbs (λ groups c. HasGroups c groups) (λ c. failed × HasNext new c) is mid last (groups_of start.commits) (groups_from (replay start.commits empty_document) on.0)
+    shown =
+        subst (λ (groups : List Group). Climbs (λ list c. HasGroups c list) (λ c. failed × HasNext new c) is mid last groups (groups_from (replay start.commits empty_document) on.0)) shows_old
+        (subst (λ (groups : List Group). Climbs (λ list c. HasGroups c list) (λ c. failed × HasNext new c) is mid last old.log groups)
+        (came start end old.log new.log climbs.0 on.0 shows_old shows_new on.1 climbs.1) climbs.2)
+
     by : (c : List ℕ) → HasBetween old.log new.log c ⊎ (failed × HasNext new c) → StandsDuring start end failed c
     by c (inl between) =
         inl (between_stands start end c legal.commits on
@@ -143,5 +211,8 @@ safe_none start failed image first last before is_image was stands synced counts
   up_to = synced.up_to;
   since = λ c left.
       inl (start.commits, ([], sym (append-nil start.commits)), ([], sym (append-nil start.commits)), left_stands image c start.commits stands (synced.since c left));
+  new = [];
+  commits = sym (append-nil start.commits);
+  held = (synced.no_later, λ c left. inl (left_stands image c start.commits stands (synced.since c left)));
   at_end = λ c left. inl (left_stands image c start.commits stands (synced.since c (counts_now synced.moment c synced.no_later left)));
 }

@@ -29,14 +29,26 @@ StandsDuring start end failed image =
 abbrev pub StandsAtEnd : Course → Type 0 → List ℕ → Type 0
 StandsAtEnd end failed image = Stands image end.commits ⊎ (failed × StandsWithNext end image)
 
--- From a moment on, at which the opening's sync had succeeded, each image stands for commits of the run. Each image before that
--- is one that the volume had at the start.
+-- From one moment on each image stands for these; while the next one comes, for these with or without it; and from a later moment
+-- on, when it had come, the same goes on with it among these. After the last one an image may also be another one, as said.
+abbrev pub Climbs : {A : Type 0} → (List A → List ℕ → Type 0) → (List ℕ → Type 0) → (ℕ → List ℕ → Type 0) → ℕ → ℕ → List A → List A → Type 0
+Climbs stands other was from now these [] = (from ≤ now) × ((image : List ℕ) → was from image → stands these image ⊎ other image)
+Climbs stands other was from now these (x ∷ more) =
+    (later : ℕ) × (from ≤ later) × ((image : List ℕ) → was from image → stands these image ⊎ stands (these ++ x ∷ []) image ⊎ was later image)
+    × Climbs stands other was later now (these ++ x ∷ []) more
+
+-- From a moment on, at which the opening's sync had succeeded, each image stands for commits of the run. The commits come one
+-- after another, and each is held by every image from a moment on. Each image before the opening's sync is one that the volume had
+-- at the start.
 pub record IsSafe (start end : Course) (failed : Type 0) (from now : ℕ) (before is_image : List ℕ → Type 0) (was : ℕ → List ℕ → Type 0) : Type 0 where
   pub moment : ℕ
   pub no_earlier : from ≤ moment
   pub no_later : moment ≤ now
   pub up_to : (image : List ℕ) → was from image → before image ⊎ was moment image
   pub since : (image : List ℕ) → was moment image → StandsDuring start end failed image
+  pub new : List Commit
+  pub commits : end.commits ≡ start.commits ++ new
+  pub held : Climbs (λ commits image. Stands image commits) (λ image. failed × StandsWithNext end image) was moment now start.commits new
   pub at_end : (image : List ℕ) → is_image image → StandsAtEnd end failed image
 
 -- statuses of a run whose opening did not come to the success of its sync
@@ -71,6 +83,16 @@ HasNext desk image = (moment : ℤ) × FitsSigned w64 moment × HasGroups image 
 -- what each image has that a crash left since the old desk
 abbrev pub During : Option (List ℕ) → (List ℕ → Type 0) → Desk → Desk → Type 0 → Type 0
 During bytes since old new failed = IfSome bytes (λ _. (image : List ℕ) → since image → HasBetween old.log new.log image ⊎ (failed × HasNext new image))
+
+-- the groups are the old ones, or, where nothing failed, these and one more
+abbrev pub GrowsByOne : List Group → List Group → Type 0 → Type 0
+GrowsByOne old new failed = (new ≡ old) ⊎ ((failed → ⊥) × (group : Group) × (new ≡ old ++ group ∷ []))
+
+-- the groups come one after another, from those of the old desk to those of the new one
+abbrev pub ClimbsFrom : Option (List ℕ) → (ℕ → List ℕ → Type 0) → ℕ → ℕ → Desk → Desk → Type 0 → Type 0
+ClimbsFrom bytes was from now old new failed =
+    IfSome bytes (λ _. (more : List Group) × (new.log ≡ old.log ++ more)
+    × Climbs (λ groups image. HasGroups image groups) (λ image. failed × HasNext new image) was from now old.log more)
 
 -- what each image has that a crash leaves now
 abbrev pub Now : Option (List ℕ) → (List ℕ → Type 0) → Desk → Type 0 → Type 0

@@ -57,7 +57,7 @@ pub(crate) struct Desk {
 }
 
 impl Desk {
-    ghost use Rattle.sx_shell.specs.Crash.{During, IsFront, Now};
+    ghost use Rattle.sx_shell.specs.Crash.{During, GrowsByOne, Now};
     ghost use Rattle.sx_shell.specs.Shows.{Shows, Serves, Steps};
 
     /// The desk over the commits of a log, with revision 0 open.
@@ -92,7 +92,7 @@ impl Desk {
         ensures during { During (V.bytes volume.old) (V.was_image volume.new (V.moment volume.old)) self.old self.new (IsErrOf result Stop.VolumeFailed) }
         ensures now { Now (V.bytes volume.old) (V.is_image volume.new) self.new (IsErrOf result Stop.VolumeFailed) }
         ensures time { Elapses (V.moment volume.old) (V.moment volume.new) (V.was_image volume.old) (V.was_image volume.new) }
-        ensures grows { IsFront self.old.log self.new.log }
+        ensures grows { GrowsByOne self.old.log self.new.log (IsErrOf result Stop.VolumeFailed) }
         ensures in_commit { IsErrOf result Stop.VolumeFailed → Says line.now (command commit) }
         ensures cause { IsErrOf result Stop.VolumeFailed → Rose (V.faults volume.old) (V.faults volume.new) }
         ensures never_falls { V.faults volume.old ≤ V.faults volume.new }
@@ -184,7 +184,7 @@ impl Desk {
         ensures during { During (V.bytes volume.old) (V.was_image volume.new (V.moment volume.old)) self.old self.new (IsErrOf result Stop.VolumeFailed) }
         ensures now { Now (V.bytes volume.old) (V.is_image volume.new) self.new (IsErrOf result Stop.VolumeFailed) }
         ensures time { Elapses (V.moment volume.old) (V.moment volume.new) (V.was_image volume.old) (V.was_image volume.new) }
-        ensures grows { IsFront self.old.log self.new.log }
+        ensures grows { GrowsByOne self.old.log self.new.log (IsErrOf result Stop.VolumeFailed) }
         ensures cause { IsErrOf result Stop.VolumeFailed → Rose (V.faults volume.old) (V.faults volume.new) }
         ensures never_falls { V.faults volume.old ≤ V.faults volume.new }
     {

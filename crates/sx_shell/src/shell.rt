@@ -8,7 +8,7 @@ ghost use Rattle.sx_layout.specs.Stands.{Stands};
 ghost use Rattle.sx_log.specs.Reading.{Explains};
 ghost use Rattle.sx_model.specs.Commit.{Commit};
 ghost use Rattle.sx_run.specs.Run.{Course, Step, started};
-ghost use Rattle.sx_shell.specs.Crash.{During, IsFront, IsSafe, IsUnopened, Now};
+ghost use Rattle.sx_shell.specs.Crash.{ClimbsFrom, During, GrowsByOne, IsSafe, IsUnopened, Now};
 ghost use Rattle.sx_shell.specs.Ends.{IsAfterOpening, IsInLine};
 ghost use Rattle.sx_shell.specs.Outcome.{Outcome};
 ghost use Rattle.sx_shell.specs.Progress.{Progress, Ended, Advanced};
@@ -111,7 +111,7 @@ fn drive<R: Wait, V: Volume, S: Source, K: Sink, C: Clock>(
     ensures during { During (V.bytes volume.old) (V.was_image volume.new (V.moment volume.old)) desk.old desk.new (result ≡ Status.VolumeFault) }
     ensures now { Now (V.bytes volume.old) (V.is_image volume.new) desk.new (result ≡ Status.VolumeFault) }
     ensures time { Elapses (V.moment volume.old) (V.moment volume.new) (V.was_image volume.old) (V.was_image volume.new) }
-    ensures grows { IsFront desk.old.log desk.new.log }
+    ensures climbs { ClimbsFrom (V.bytes volume.old) (V.was_image volume.new) (V.moment volume.old) (V.moment volume.new) desk.old desk.new (result ≡ Status.VolumeFault) }
     ensures after_opening { IsAfterOpening result }
     ensures read_fault { result ≡ Status.ReadFault → Rose (S.faults source.old) (S.faults source.new) }
     ensures write_fault { result ≡ Status.WriteFault → Rose (K.faults sink.old) (K.faults sink.new) }
@@ -150,7 +150,7 @@ fn advance<V: Volume, S: Source, K: Sink, C: Clock>(
     ensures during { During (V.bytes volume.old) (V.was_image volume.new (V.moment volume.old)) desk.old desk.new (result ≡ Some Status.VolumeFault) }
     ensures now { Now (V.bytes volume.old) (V.is_image volume.new) desk.new (result ≡ Some Status.VolumeFault) }
     ensures time { Elapses (V.moment volume.old) (V.moment volume.new) (V.was_image volume.old) (V.was_image volume.new) }
-    ensures grows { IsFront desk.old.log desk.new.log }
+    ensures grows { GrowsByOne desk.old.log desk.new.log (result ≡ Some Status.VolumeFault) }
     ensures after_opening { IfSome result IsAfterOpening }
     ensures read_fault { result ≡ Some Status.ReadFault → Rose (S.faults source.old) (S.faults source.new) }
     ensures write_fault { result ≡ Some Status.WriteFault → Rose (K.faults sink.old) (K.faults sink.new) }
@@ -189,7 +189,7 @@ fn serve<V: Volume, K: Sink, C: Clock>(
     ensures during { During (V.bytes volume.old) (V.was_image volume.new (V.moment volume.old)) desk.old desk.new (result ≡ Some Status.VolumeFault) }
     ensures now { Now (V.bytes volume.old) (V.is_image volume.new) desk.new (result ≡ Some Status.VolumeFault) }
     ensures time { Elapses (V.moment volume.old) (V.moment volume.new) (V.was_image volume.old) (V.was_image volume.new) }
-    ensures grows { IsFront desk.old.log desk.new.log }
+    ensures grows { GrowsByOne desk.old.log desk.new.log (result ≡ Some Status.VolumeFault) }
     ensures in_line { IfSome result IsInLine }
     ensures write_fault { result ≡ Some Status.WriteFault → Rose (K.faults sink.old) (K.faults sink.new) }
     ensures volume_fault { result ≡ Some Status.VolumeFault → Rose (V.faults volume.old) (V.faults volume.new) }

@@ -1,7 +1,7 @@
 use Rattle.std.proofs.Common.{◌≡◌, ◌≤◌, List, ℕ, Some, is_some}
 use Rattle.sx_log.specs.Keeps.{Keeps}
 use Rattle.sx_run.specs.Run.{Course}
-use Rattle.sx_shell.specs.Crash.{During, IsFront}
+use Rattle.sx_shell.specs.Crash.{ClimbsFrom, During, IsFront}
 use Rattle.sx_shell.specs.Progress.{Progress}
 use Rattle.sx_shell.specs.Shows.{Shows}
 use Rattle.sx_shell.specs.Waiting.{waiting}
@@ -18,6 +18,7 @@ invariant-loop g l = record {
   during : During (g.V.Volume.bytes l.fn.volume) (g.V.Volume.was_image l.volume (g.V.Volume.moment l.fn.volume)) l.fn.desk l.desk ⊥;
   time : Elapses (g.V.Volume.moment l.fn.volume) (g.V.Volume.moment l.volume) (g.V.Volume.was_image l.fn.volume) (g.V.Volume.was_image l.volume);
   grows : IsFront l.fn.desk.log l.desk.log;
+  climbs : ClimbsFrom (g.V.Volume.bytes l.fn.volume) (g.V.Volume.was_image l.volume) (g.V.Volume.moment l.fn.volume) (g.V.Volume.moment l.volume) l.fn.desk l.desk ⊥;
   source_faults : g.S.Source.faults l.fn.source ≤ g.S.Source.faults l.source;
   sink_faults : g.K.Sink.faults l.fn.sink ≤ g.K.Sink.faults l.sink;
   volume_faults : g.V.Volume.faults l.fn.volume ≤ g.V.Volume.faults l.volume;

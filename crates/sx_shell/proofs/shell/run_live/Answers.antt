@@ -101,7 +101,8 @@ returns-clause-run g c = λ image input before commits told stands left written.
           (c.drive.ensures.kept ok).groups ran.6,
       inl (safe_run start ran.2 (c.drive.result ≡ status.VolumeFault) image (g.V.Volume.moment c.args.volume.now) (g.V.Volume.moment c.open.new.volume) (g.V.Volume.moment c.drive.new.volume)
           (g.V.Volume.is_image c.args.volume.now) (g.V.Volume.is_image c.drive.new.volume) (g.V.Volume.was_image c.open.new.volume) (g.V.Volume.was_image c.drive.new.volume) old new
-          stands synced c.drive.ensures.time (c.in-Ok-new.ensures.same_log ∙ given) ran.6 ran.7 end.0 end.1 during now),
+          stands synced c.drive.ensures.time (c.in-Ok-new.ensures.same_log ∙ given) ran.6 ran.7 end.0 end.1 during now
+          (when_told _ bytes opened image told c.in-Ok.ensures.told c.drive.ensures.climbs)),
     )
 
 pub returns-clause-damaged_exactly : goal.returns-clause-damaged_exactly
