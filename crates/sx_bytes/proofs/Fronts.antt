@@ -1,10 +1,10 @@
 -- What is read at the front is what was written there, and what was written is read again.
-use Rattle.std.proofs.Common.{◌≡◌, ℕ, suc, ◌+◌, ◌^◌, ◌<◌, ◌≤◌, Bool, true, false, cond, ltb, List, [], ◌∷◌, ◌++◌, length, get_or, take, drop, Option, Some, None, refl, sym, ap, subst, ◌∙◌, append_assoc, arith, inl, inr}
-use Rattle.std.specs.Int.{Width, byte_len, bytes_high_first, from_be_bytes, to_be_bytes}
+use Rattle.std.proofs.Common.{◌≡◌, ℕ, ◌+◌, ◌^◌, ◌<◌, ◌≤◌, Bool, true, false, cond, ltb, List, ◌++◌, length, take, drop, Option, Some, None, refl, sym, ap, subst, ◌∙◌, append_assoc, arith, inl, inr}
+use Rattle.std.specs.Int.{Width, byte_len, from_be_bytes, to_be_bytes}
 use Rattle.std.proofs.lemmas.Bool.{cases_lt, ltb-false, le-ltb}
 use Rattle.std.proofs.lemmas.List.{take_at, drop_at, take-append-drop, length-append, length-take, get_or-drop, get_or-take, get_or_past}
-use Rattle.sx_bytes.specs.Front.{AreBytes, ◌>>=◌, front_byte, front_number, front_piece}
-use Rattle.sx_bytes.proofs.Worth.{worth, worth-lt, worth-high_first, high_first-worth, length-high_first, from_be_bytes-worth}
+use Rattle.sx_bytes.specs.Front.{AreBytes, ◌>>=◌, front_number, front_piece}
+use Rattle.sx_bytes.proofs.Worth.{worth-lt, worth-high_first, high_first-worth, length-high_first, from_be_bytes-worth}
 
 pub AreBytes-drop : (n : ℕ) (bytes : List ℕ) → AreBytes bytes → AreBytes (drop n bytes)
 AreBytes-drop n bytes h i = rw get_or-drop (h (n + i))

@@ -10,3 +10,6 @@ pub mod ScalarReads
 pub mod Steps
 pub mod Skipping
 pub mod Texts
+pub mod WrittenStrings
+pub mod WrittenNumbers
+pub mod ReadBack

@@ -6,3 +6,4 @@ pub mod Grammar
 pub mod Frames
 pub mod Outcome
 pub mod Front
+pub mod Limits

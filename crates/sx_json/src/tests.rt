@@ -5,6 +5,7 @@ use crate::writer::write;
 use std::alloc::{AllocError, Global};
 use std::test::Fail;
 use sx_tree::bytes::Bytes;
+use sx_tree::json::{Items, Json};
 
 fn fault_of(alloc: Global, text: &[u8]) -> Option<JsonFault> {
     read(alloc, text).err()
@@ -134,5 +135,43 @@ fn strings(rt: HostRuntime) -> Result<(), Fail> {
     for (text, fault) in rows {
         assert_eq!(rt; read_string(rt.alloc(), text).err(), Some(fault));
     }
+    Ok(())
+}
+
+fn written(alloc: Global, value: &Json) -> Result<Bytes, AllocError> {
+    let mut out = Bytes::new(alloc);
+    write(alloc, value, &mut out)?;
+    Ok(out)
+}
+
+/// What is written of what was read is read again, and is written the same.
+#[test]
+fn reads_back(rt: HostRuntime) -> Result<(), Fail> {
+    let alloc = rt.alloc();
+    let deepest = nested(alloc, 256)?;
+    let rows: [&[u8]; 5] = [
+        b" {\"a\":[1.50e+3,{\"\\u0062\":\"\\/\"}],\"c\":[]}",
+        b"\"\\u0000\\u001F\\u007f\\\"\\\\\\b\\f\\n\\r\\t\"",
+        b"\"\\ud83d\\ude00\xc3\xa9\"",
+        b"[true, false, null]",
+        deepest.as_slice(),
+    ];
+    for text in rows {
+        let first = written(alloc, &read(alloc, text)?)?;
+        let second = written(alloc, &read(alloc, first.as_slice())?)?;
+        assert_eq!(rt; second.as_slice(), first.as_slice());
+    }
+    Ok(())
+}
+
+/// A value that nests too deep to be read is written.
+#[test]
+fn deeper_than_read(rt: HostRuntime) -> Result<(), Fail> {
+    let alloc = rt.alloc();
+    let mut items = Items::new(alloc);
+    items.push(read(alloc, nested(alloc, 256)?.as_slice())?)?;
+    let out = written(alloc, &Json::Array(items))?;
+    let deeper = nested(alloc, 257)?;
+    assert_eq!(rt; out.as_slice(), deeper.as_slice());
     Ok(())
 }

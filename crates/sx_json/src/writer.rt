@@ -1,7 +1,9 @@
 //! Writes the canonical text of a value.
-ghost use Rattle.std.specs.Prelude.{◌≡◌, ◌<◌, ◌++◌, OnErr, OnOk};
-ghost use Rattle.sx_tree.specs.Value.{value_of, values_of, fields_of};
+ghost use Rattle.std.specs.Prelude.{◌≡◌, ◌<◌, ◌≤◌, ◌++◌, OnErr, OnOk};
+ghost use Rattle.sx_tree.specs.Value.{object, value_of, values_of, fields_of, depth};
 ghost use Rattle.sx_json.specs.Canonical.{comma_before, escaped, lower_hex_digit, string_text, scalar_text, text, elements_text, members_text};
+ghost use Rattle.sx_json.specs.Grammar.{Spells};
+ghost use Rattle.sx_json.specs.Limits.{ScalarKeepsLimits, KeepsLimits, ElementsKeepLimits};
 
 use std::alloc::{AllocError, Global};
 use sx_tree::bytes::Bytes;
@@ -9,9 +11,12 @@ use sx_tree::json::{Json, Members, Scalar};
 
 /// Appends the canonical text of the value (RFC 8259): no white space outside strings; in strings the
 /// quote, the backslash and the characters below U+0020 are escaped, by the short escapes where there
-/// are some, and by `\u00` and two lower-case digits else. A failure changes nothing.
+/// are some, and by `\u00` and two lower-case digits else. Where at most 256 arrays and objects nest,
+/// `read` gives the value back. A failure changes nothing.
 pub fn write(alloc: Global, value: &Json, out: &mut Bytes) -> Result<(), AllocError>
     ensures ok { OnOk result (out.new ≡ out.old ++ text (value_of value.now)) }
+    // What is written spells the value: `read` gives the value back.
+    ensures read_back { OnOk result (depth (value_of value.now) ≤ 256 → Spells (text (value_of value.now)) (value_of value.now)) }
     ensures err { OnErr result (out.new ≡ out.old) }
 {
     let mut written = Bytes::new(alloc);
@@ -21,7 +26,8 @@ pub fn write(alloc: Global, value: &Json, out: &mut Bytes) -> Result<(), AllocEr
 
 #[cycle(write)]
 fn write_value(value: &Json, out: &mut Bytes) -> Result<(), AllocError>
-    ensures { OnOk result (out.new ≡ out.old ++ text (value_of value.now)) }
+    ensures written { OnOk result (out.new ≡ out.old ++ text (value_of value.now)) }
+    ensures limits { OnOk result (KeepsLimits (value_of value.now)) }
 {
     match value {
         Json::Scalar(scalar) => write_scalar(scalar, out),
@@ -39,7 +45,8 @@ fn write_value(value: &Json, out: &mut Bytes) -> Result<(), AllocError>
 }
 
 fn write_scalar(scalar: &Scalar, out: &mut Bytes) -> Result<(), AllocError>
-    ensures { OnOk result (out.new ≡ out.old ++ scalar_text scalar.now) }
+    ensures written { OnOk result (out.new ≡ out.old ++ scalar_text scalar.now) }
+    ensures limits { OnOk result (ScalarKeepsLimits scalar.now) }
 {
     match scalar {
         Scalar::Str(text) => write_string(text.as_bytes(), out),
@@ -52,7 +59,8 @@ fn write_scalar(scalar: &Scalar, out: &mut Bytes) -> Result<(), AllocError>
 
 #[cycle(write)]
 fn write_elements(values: &[Json], out: &mut Bytes) -> Result<(), AllocError>
-    ensures { OnOk result (out.new ≡ out.old ++ elements_text (values_of values.now)) }
+    ensures written { OnOk result (out.new ≡ out.old ++ elements_text (values_of values.now)) }
+    ensures limits { OnOk result (ElementsKeepLimits (values_of values.now)) }
 {
     for (place, value) in values.iter().enumerate() {
         write_comma(place, out)?;
@@ -63,7 +71,8 @@ fn write_elements(values: &[Json], out: &mut Bytes) -> Result<(), AllocError>
 
 #[cycle(write)]
 fn write_members(members: &Members, out: &mut Bytes) -> Result<(), AllocError>
-    ensures { OnOk result (out.new ≡ out.old ++ members_text (fields_of members.now)) }
+    ensures written { OnOk result (out.new ≡ out.old ++ members_text (fields_of members.now)) }
+    ensures limits { OnOk result (KeepsLimits (object (fields_of members.now))) }
 {
     let names = members.names();
     let values = members.values();

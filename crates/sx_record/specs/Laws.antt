@@ -1,6 +1,6 @@
 -- No two records have one spelling, and no spelling begins another's.
-use Rattle.std.specs.Prelude.{ℕ, zero, suc, ◌≡◌, ◌<◌, ◌≤◌, ◌^◌, List, [], ◌∷◌, ◌++◌, length, Option, Some, None, refl}
-use Rattle.std.proofs.Common.{sym, ap, ◌∙◌, append_assoc, arith, lit<}
+use Rattle.std.specs.Prelude.{ℕ, zero, suc, ◌≡◌, ◌<◌, ◌^◌, List, [], ◌∷◌, ◌++◌, length, Option, Some, None, refl}
+use Rattle.std.proofs.Common.{sym, ap, ◌∙◌, arith, lit<}
 use Rattle.std.specs.Int.{w32, w128, to_be_bytes}
 use Rattle.std.specs.Coded.{le_prop}
 use mathlib.Core.HLevel.{Σ_prop_path}
@@ -13,7 +13,7 @@ use Rattle.sx_tree.specs.declared.record.Kind.{Kind}
 use Rattle.sx_tree.specs.declared.record.Kind.TheVariants.{Document, Object, Array, Key, Str, Number, Bool, Null}
 use Rattle.sx_tree.specs.Record.{IsLink, IsLabel}
 use Rattle.sx_record.specs.Same.{HaveSameLinks, HaveSameRest}
-use Rattle.sx_record.specs.Spelling.{IsText, text_bytes, PathFields, path_bytes, path_fields, step_byte, step_name, IsPath, NodeFields, node_bytes, node_fields, kind_byte, link_number, IsNode}
+use Rattle.sx_record.specs.Spelling.{text_bytes, PathFields, path_bytes, path_fields, step_byte, step_name, IsPath, NodeFields, node_bytes, node_fields, kind_byte, link_number, IsNode}
 use Rattle.sx_record.specs.Reading.{front_text, front_path, front_node}
 
 abbrev some : {A : Type 0} → A → Option A

@@ -1,5 +1,5 @@
 -- The fields at the front of bytes, and the bytes behind them.
-use Rattle.std.specs.Prelude.{ℕ, List, Option, Some, None}
+use Rattle.std.specs.Prelude.{ℕ, List, Option, Some}
 use Rattle.std.specs.Int.{w32, w128}
 use Rattle.sx_bytes.specs.Front.{◌>>=◌, front_byte, front_number, front_piece}
 use Rattle.sx_record.specs.Spelling.{PathFields, NodeFields}

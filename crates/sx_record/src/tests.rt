@@ -176,6 +176,28 @@ fn nodes(rt: HostRuntime) -> Result<(), Fail> {
         assert_eq!(rt; node.hash, row.hash);
         assert_eq!(rt; node.label.as_bytes(), row.label);
     }
+    fragment(&rt, alloc)
+}
+
+/// The body of the fragment that has the nodes of `[1,2,3]`: the leaf, the bits of its records and those of its
+/// tombstones, and the records.
+fn fragment(rt: &impl Abort, alloc: Global) -> Result<(), Fail> {
+    let mut body = FieldsOut::new(alloc);
+    body.u32(0)?;
+    body.u64(31)?;
+    body.u64(0)?;
+    let mut records = FieldsOut::new(alloc);
+    let sizes = [53, 53, 54, 54, 54];
+    for (row, size) in ROWS[1..6].iter().zip(&sizes) {
+        let before = records.len();
+        read::<NodeRecord>(rt, alloc, row.bytes)?.encode(&mut records)?;
+        assert_eq!(rt; records.len() - before, *size);
+    }
+    assert_eq!(rt; records.len(), 268);
+    body.bytes(&records.into_vec())?;
+    assert_eq!(rt; body.len(), 288);
+    let head = [0, 0, 0, 0, 0, 0, 0, 0, 0, 0, 0, 31, 0, 0, 0, 0, 0, 0, 0, 0];
+    assert_eq!(rt; body.into_vec().get(..20), Some(head.as_slice()));
     Ok(())
 }
 

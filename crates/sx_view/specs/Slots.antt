@@ -2,7 +2,7 @@
 use Rattle.std.specs.Prelude.{◌≡◌, ℕ, Bool, true, nat_eq, is_some, reverse, List, [], ◌∷◌, Option, Some, None, if◌then◌else◌}
 use Rattle.std.specs.Ordering.{nat_cmp}
 use Rattle.std.specs.BTreeMap.{BTreeMap, get}
-use Rattle.std.specs.FinMap.{FinMap, empty, insert, remove}
+use Rattle.std.specs.FinMap.{empty, insert, remove}
 use Rattle.std.specs.Global.{Vec}
 use Rattle.std.specs.Option.{ForSome, option_map}
 use Rattle.std.specs.Coded.{Unit-prop, Coded-set, coded_bool}

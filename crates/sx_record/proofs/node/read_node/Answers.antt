@@ -1,4 +1,3 @@
-use Rattle.sx_record.specs.Given.{given_node}
 use Rattle.sx_record.proofs.OneByOne.{read_node}
 use Rattle.sx_record.proofs.node.read_node.Goals as goal
 

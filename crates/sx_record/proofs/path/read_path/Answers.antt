@@ -1,4 +1,3 @@
-use Rattle.sx_record.specs.Given.{given_path}
 use Rattle.sx_record.proofs.OneByOne.{read_path}
 use Rattle.sx_record.proofs.path.read_path.Goals as goal
 
