@@ -1,6 +1,7 @@
 pub mod Writing
 pub mod Units
 pub mod StringShapes
+pub mod StringTexts
 pub mod Results
 pub mod Values
 pub mod Turns

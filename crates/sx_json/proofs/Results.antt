@@ -1,8 +1,8 @@
 -- Facts on one side of a result.
-use Rattle.std.proofs.Common.{Result, Ok, Err, IfOk, IfErr}
+use Rattle.std.proofs.Common.{◌≡◌, refl, inl, inr, Result, Ok, Err, IfOk, IfErr}
 use Rattle.sx_json.specs.declared.fault.JsonFault.{JsonFault}
 use Rattle.sx_json.specs.declared.fault.JsonFault.TheVariants.{BadByte, TooDeep, DuplicateName, LoneSurrogate, NumberTooLong, StringTooLong, Ended, OutOfMemory}
-use Rattle.sx_json.specs.Reading.{Refuses}
+use Rattle.sx_json.specs.Reading.{Refuses, UnlessMemory}
 
 pub if_ok_map : {T E : Type 0} (P Q : T → Type 0) (r : Result T E) → IfOk r P → ((x : T) → P x → Q x) → IfOk r Q
 if_ok_map P Q (Ok x) h f = f x h
@@ -39,3 +39,28 @@ if_err_refuses P (Err e) p = refuses_all P e p
 pub if_refuses_map : {T : Type 0} (P Q : Type 0) (r : Result T JsonFault) → (P → Q) → IfErr r (Refuses P) → IfErr r (Refuses Q)
 if_refuses_map P Q (Ok x) h p = tt
 if_refuses_map P Q (Err e) h p = refuses_map P Q e h p
+
+pub refuses_here : (P : Type 0) (f : JsonFault) → Refuses P f → (f ≡ OutOfMemory → ⊥) → P
+refuses_here P (BadByte place) p other = p
+refuses_here P (TooDeep place) p other = p
+refuses_here P (DuplicateName place) p other = p
+refuses_here P (LoneSurrogate place) p other = p
+refuses_here P (NumberTooLong place) p other = p
+refuses_here P (StringTooLong place) p other = p
+refuses_here P Ended p other = p
+refuses_here P OutOfMemory p other = absurd (other refl)
+
+-- A fault that speaks of no text can only be want of memory where there is one.
+pub memory_alone : (P : Type 0) (f : JsonFault) → Refuses P f → (P → ⊥) → f ≡ OutOfMemory
+memory_alone P (BadByte place) p none = absurd (none p)
+memory_alone P (TooDeep place) p none = absurd (none p)
+memory_alone P (DuplicateName place) p none = absurd (none p)
+memory_alone P (LoneSurrogate place) p none = absurd (none p)
+memory_alone P (NumberTooLong place) p none = absurd (none p)
+memory_alone P (StringTooLong place) p none = absurd (none p)
+memory_alone P Ended p none = absurd (none p)
+memory_alone P OutOfMemory p none = refl
+
+pub unless_map : (P Q : JsonFault → Type 0) (f : JsonFault) → (P f → Q f) → UnlessMemory P f → UnlessMemory Q f
+unless_map P Q f h (inl e) = inl e
+unless_map P Q f h (inr p) = inr (h p)

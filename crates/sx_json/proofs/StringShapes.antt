@@ -3,8 +3,8 @@ use Rattle.std.proofs.Common.{◌≡◌, ◌≢◌, ℕ, ◌≤◌, ◌<◌, ◌
 use Rattle.std.proofs.lemmas.List.{append-nil}
 use Rattle.std.proofs.lemmas.Str.{encode_ascii}
 use Rattle.std.specs.Char.{IsScalar}
-use Rattle.sx_json.specs.Strings.{IsPlain, IsShortEscape, UnitAt, IsHighSurrogate, IsLowSurrogate, pair_char, IsText, StringAt, closing, plain, short, unicode, pair}
-use Rattle.sx_json.specs.Reading.{ReadsText, NoText, ReadsUnit, NoUnit, LowAt, ReadsLow, NoLow, Leads, NoString}
+use Rattle.sx_json.specs.Strings.{IsPlain, IsShortEscape, UnitAt, IsHighSurrogate, IsLowSurrogate, pair_char, LowAt, IsText, StringAt, closing, plain, short, unicode, pair}
+use Rattle.sx_json.specs.Reading.{ReadsText, NoText, ReadsUnit, NoUnit, ReadsLow, NoLow, Leads, NoString}
 
 -- what two equal lists have in common
 pub heads : (a b : ℕ) (xs ys : List ℕ) → a ∷ xs ≡ b ∷ ys → (a ≡ b) × (xs ≡ ys)
@@ -263,3 +263,30 @@ text_refused bytes content left after leads is bad c l s =
     let a = leads.0 c l s.0 in
     let b = StringAt-closing left after a.0 l is a.2 in
     bad (subst IsText (a.1 ∙ ap (λ m. content ++ m) b.0 ∙ append-nil content) s.1)
+
+unit_extends : (more bytes : List ℕ) (unit : ℕ) (left : List ℕ) → UnitAt bytes unit left → UnitAt (bytes ++ more) unit (left ++ more)
+unit_extends more bytes unit left u = record {
+  a = u.a;
+  b = u.b;
+  c = u.c;
+  d = u.d;
+  x = u.x;
+  y = u.y;
+  z = u.z;
+  w = u.w;
+  a_is = u.a_is;
+  b_is = u.b_is;
+  c_is = u.c_is;
+  d_is = u.d_is;
+  unit_is = u.unit_is;
+  bytes_are = ap (λ l. l ++ more) u.bytes_are;
+}
+
+-- Whatever follows a string at the front, it stands there.
+pub string_extends : (more bytes content left : List ℕ) → StringAt bytes content left → StringAt (bytes ++ more) content (left ++ more)
+string_extends more bytes content left (closing l) = closing (l ++ more)
+string_extends more bytes content left (plain byte rest c l p s) = plain byte (rest ++ more) c (l ++ more) p (string_extends more rest c l s)
+string_extends more bytes content left (short letter byte rest c l p s) = short letter byte (rest ++ more) c (l ++ more) p (string_extends more rest c l s)
+string_extends more bytes content left (unicode rest unit after c l u p s) = unicode (rest ++ more) unit (after ++ more) c (l ++ more) (unit_extends more rest unit after u) p (string_extends more after c l s)
+string_extends more bytes content left (pair rest high middle low after c l u p v q s) =
+    pair (rest ++ more) high (middle ++ more) low (after ++ more) c (l ++ more) (unit_extends more rest high (92 ∷ 117 ∷ middle) u) p (unit_extends more middle low after v) q (string_extends more after c l s)

@@ -2,8 +2,8 @@
 use Rattle.std.proofs.Common.{◌≡◌, ℕ, List, [], refl, subst, arith, IsUtf8}
 use Rattle.sx_tree.specs.declared.json.Json.{Json}
 use Rattle.sx_tree.specs.Value.{Value, value_of}
-use Rattle.sx_json.specs.Grammar.{Led, ValueAt, Spells}
-use Rattle.sx_json.specs.Frames.{Skips, Follows, Steps, Stuck}
+use Rattle.sx_json.specs.Grammar.{Led, Skips, Spells, ValueAt}
+use Rattle.sx_json.specs.Frames.{Follows, Steps, Stuck}
 use Rattle.sx_json.specs.Outcome.{Reads}
 use Rattle.sx_json.specs.declared.reader.Frame.{Frame}
 use Rattle.sx_json.specs.declared.reader.Turn.{Turn}

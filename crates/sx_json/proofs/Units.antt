@@ -1,7 +1,7 @@
 -- Four digits are one number, and no other reading of the bytes.
 use Rattle.std.proofs.Common.{◌≡◌, ℕ, ◌+◌, ◌*◌, inl, inr, List, ◌∷◌, refl, ap, sym, ◌∙◌, subst, arith, Result, Ok, Err, IfErr}
-use Rattle.sx_json.specs.Strings.{IsHexDigit, UnitAt}
-use Rattle.sx_json.specs.Reading.{DigitAt, NoDigit, ReadsUnit, NoUnit}
+use Rattle.sx_json.specs.Strings.{DigitAt, NoDigit, IsHexDigit, UnitAt}
+use Rattle.sx_json.specs.Reading.{ReadsUnit, NoUnit}
 
 pub if_err : {T E P : Type 0} (r : Result T E) → P → IfErr r (λ _. P)
 if_err (Ok x) p = tt

@@ -1,11 +1,11 @@
 -- What may follow where the reading of a text stands, so that the whole text spells a value: for the
 -- reader's own functions.
-use Rattle.std.specs.Prelude.{ℕ, zero, suc, ◌≡◌, ◌+◌, ◌<◌, ◌≤◌, ◌⊎◌, List, [], ◌∷◌, ◌++◌, length, reverse}
+use Rattle.std.specs.Prelude.{ℕ, zero, suc, ◌≡◌, ◌+◌, ◌<◌, ◌≤◌, ◌⊎◌, List, [], ◌∷◌, length, reverse}
 use Rattle.sx_tree.specs.declared.json.Scalar.{Scalar}
 use Rattle.sx_tree.specs.Names.{AreDistinct}
 use Rattle.sx_tree.specs.Number.{IsDigit}
 use Rattle.sx_tree.specs.Value.{Value, scalar, array, object, Values, no_values, value_then, Fields, no_fields, field_then, value_of, values_of, fields_of}
-use Rattle.sx_json.specs.Grammar.{IsBlank, AreBlanks, Led, NameThen, ValueAt, ElementsAt, MoreElementsAt, MembersAt, MoreMembersAt, names_in}
+use Rattle.sx_json.specs.Grammar.{AreBlanks, IsSolid, BeginsOther, Led, NameThen, ValueAt, ElementsAt, MoreElementsAt, MembersAt, MoreMembersAt, names_in}
 use Rattle.sx_json.specs.declared.reader.Frame.{Frame}
 use Rattle.sx_json.specs.declared.reader.Frame.TheVariants.{Array, Member}
 use Rattle.sx_json.specs.declared.reader.Turn.{Turn}
@@ -63,18 +63,6 @@ ReadsScalar bytes s left = (frames : List Frame) (room : ℕ) (v : Value) → (A
 
 abbrev pub NoValue : List ℕ → Type 0
 NoValue bytes = (frames : List Frame) (room : ℕ) (v : Value) → Awaits frames room v bytes → ⊥
-
--- the bytes do not begin with white space
-abbrev pub IsSolid : List ℕ → Type 0
-IsSolid bytes = (byte : ℕ) (rest : List ℕ) → bytes ≡ byte ∷ rest → IsBlank byte → ⊥
-
--- the bytes do not begin with this one
-abbrev pub BeginsOther : ℕ → List ℕ → Type 0
-BeginsOther byte bytes = (rest : List ℕ) → bytes ≡ byte ∷ rest → ⊥
-
--- the bytes are white space and the rest
-abbrev pub Skips : List ℕ → List ℕ → Type 0
-Skips bytes rest = (blanks : List ℕ) × AreBlanks blanks × (bytes ≡ blanks ++ rest)
 
 -- At a turn, with these frames, the innermost last: the bytes may follow in a text that spells v.
 abbrev pub Follows : Turn → List Frame → Value → List ℕ → Type 0

@@ -16,6 +16,18 @@ abbrev pub AreBlanks : List ℕ → Type 0
 AreBlanks [] = Unit {0}
 AreBlanks (byte ∷ bytes) = IsBlank byte × AreBlanks bytes
 
+-- the bytes do not begin with white space
+abbrev pub IsSolid : List ℕ → Type 0
+IsSolid bytes = (byte : ℕ) (rest : List ℕ) → bytes ≡ byte ∷ rest → IsBlank byte → ⊥
+
+-- the bytes do not begin with this one
+abbrev pub BeginsOther : ℕ → List ℕ → Type 0
+BeginsOther byte bytes = (rest : List ℕ) → bytes ≡ byte ∷ rest → ⊥
+
+-- the bytes are white space and the rest
+abbrev pub Skips : List ℕ → List ℕ → Type 0
+Skips bytes rest = (blanks : List ℕ) × AreBlanks blanks × (bytes ≡ blanks ++ rest)
+
 -- white space, and then what P says
 abbrev pub Led : (List ℕ → Type 0) → List ℕ → Type 0
 Led P [] = P []

@@ -5,4 +5,5 @@ pub mod Piece
 pub mod Grammar
 pub mod Frames
 pub mod Outcome
+pub mod StringFaults
 pub mod Front

@@ -1,8 +1,8 @@
 -- What a reading of strings found: for the reader's own functions.
-use Rattle.std.specs.Prelude.{ℕ, ◌≡◌, List, ◌∷◌, ◌++◌}
+use Rattle.std.specs.Prelude.{ℕ, ◌≡◌, ◌⊎◌, List, ◌++◌}
 use Rattle.sx_json.specs.declared.fault.JsonFault.{JsonFault}
 use Rattle.sx_json.specs.declared.fault.JsonFault.TheVariants.{BadByte, TooDeep, DuplicateName, LoneSurrogate, NumberTooLong, StringTooLong, Ended, OutOfMemory}
-use Rattle.sx_json.specs.Strings.{IsHexDigit, IsHighSurrogate, IsLowSurrogate, pair_char, UnitAt, StringAt, TextAt}
+use Rattle.sx_json.specs.Strings.{LowAt, IsHighSurrogate, pair_char, UnitAt, StringAt, TextAt}
 
 -- The unit and the rest are the only ones.
 abbrev pub ReadsUnit : List ℕ → ℕ → List ℕ → Type 0
@@ -19,17 +19,6 @@ Leads bytes begun after =
 
 abbrev pub NoString : List ℕ → Type 0
 NoString bytes = (content left : List ℕ) → StringAt bytes content left → ⊥
-
--- a hexadecimal digit at the front of the bytes, and what is left
-abbrev pub DigitAt : List ℕ → ℕ → List ℕ → Type 0
-DigitAt bytes digit left = (byte : ℕ) × IsHexDigit byte digit × (bytes ≡ byte ∷ left)
-
-abbrev pub NoDigit : List ℕ → Type 0
-NoDigit bytes = (digit : ℕ) (left : List ℕ) → DigitAt bytes digit left → ⊥
-
--- an escape that is a low surrogate, at the front of the bytes
-abbrev pub LowAt : List ℕ → ℕ → List ℕ → Type 0
-LowAt bytes low left = (middle : List ℕ) × (bytes ≡ 92 ∷ 117 ∷ middle) × UnitAt middle low left × IsLowSurrogate low
 
 abbrev pub ReadsLow : List ℕ → ℕ → List ℕ → Type 0
 ReadsLow bytes low after = LowAt bytes low after × ((u : ℕ) (l : List ℕ) → LowAt bytes u l → (u ≡ low) × (l ≡ after))
@@ -50,6 +39,10 @@ ReadsText bytes content after = TextAt bytes content after × ((c l : List ℕ) 
 
 abbrev pub NoText : List ℕ → Type 0
 NoText bytes = (content left : List ℕ) → TextAt bytes content left → ⊥
+
+-- The fault is this one, or want of memory.
+abbrev pub UnlessMemory : (JsonFault → Type 0) → JsonFault → Type 0
+UnlessMemory P f = (f ≡ OutOfMemory) ⊎ P f
 
 -- The fact holds where the fault is not want of memory.
 abbrev pub Refuses : Type 0 → JsonFault → Type 0

@@ -2,8 +2,8 @@
 ghost use Rattle.std.specs.Prelude.{◌≡◌, ◌<◌, ◌≤◌, ◌∷◌, ◌++◌, [], IfErr, IfOk, length};
 ghost use Rattle.sx_tree.specs.Names.{AreDistinct, names_of};
 ghost use Rattle.sx_tree.specs.Value.{Value, value_of};
-ghost use Rattle.sx_json.specs.Frames.{BeginsOther, Follows, HasRoom, IsSolid, Steps, Stuck};
-ghost use Rattle.sx_json.specs.Grammar.{Spells};
+ghost use Rattle.sx_json.specs.Frames.{Follows, HasRoom, Steps, Stuck};
+ghost use Rattle.sx_json.specs.Grammar.{BeginsOther, IsSolid, Spells};
 ghost use Rattle.sx_json.specs.Outcome.{IsOutcome, Reads};
 ghost use Rattle.sx_json.specs.Reading.{Refuses};
 

@@ -1,8 +1,9 @@
 //! Reads a scalar: a string, a number or a literal name (RFC 8259 sections 3, 6 and 7).
 ghost use Rattle.std.specs.Prelude.{◌≡◌, ◌≢◌, ◌≤◌, ◌++◌, ◌∷◌, ◌↔◌, ℕ, List, IfErr, IfOk, IsTrue, MatchOption, length};
-ghost use Rattle.sx_json.specs.Frames.{BeginsNumberAt, BeginsOther, BeginsScalar, IsSolid, NoValue, ReadsScalar, Skips};
-ghost use Rattle.sx_json.specs.Grammar.{IsBlank};
+ghost use Rattle.sx_json.specs.Frames.{BeginsNumberAt, BeginsScalar, NoValue, ReadsScalar};
+ghost use Rattle.sx_json.specs.Grammar.{BeginsOther, IsBlank, IsSolid, Skips};
 ghost use Rattle.sx_json.specs.Reading.{Refuses};
+ghost use Rattle.sx_json.specs.StringFaults.{unexpected};
 
 use crate::fault::JsonFault;
 use crate::strings::{place, string_at};
@@ -95,7 +96,9 @@ fn word_at<'a>(end: usize, bytes: &'a [u8], word: &[u8]) -> Result<&'a [u8], Jso
 }
 
 /// The fault where the first of the bytes is none that may stand there.
-pub(crate) fn unexpected(end: usize, bytes: &[u8]) -> JsonFault {
+pub(crate) fn unexpected(end: usize, bytes: &[u8]) -> JsonFault
+    ensures { result ≡ unexpected end bytes.now }
+{
     if bytes.is_empty() {
         JsonFault::Ended
     } else {

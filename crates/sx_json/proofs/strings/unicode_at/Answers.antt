@@ -1,3 +1,4 @@
+use Rattle.std.proofs.Common.{inr}
 use Rattle.sx_json.proofs.Results.{if_ok_map, if_err_map}
 use Rattle.sx_json.proofs.Units.{if_err}
 use Rattle.sx_json.proofs.StringShapes.{NoString-unit, Leads-unicode, Leads-pair, NoString-pair}
@@ -20,3 +21,7 @@ pub returns-in-None-clause-err : goal.returns-in-None-clause-err
 returns-in-None-clause-err c =
     if_err_map _ _ c.surrogates_at.result c.surrogates_at.ensures.err
     (λ none. NoString-pair c.args.bytes.now c.in_ok-unit.left.now c.in_ok-unit.unit c.in_ok-unit.ensures.ok c.in-None.ensures.value none)
+
+pub returns-in-None-clause-is : goal.returns-in-None-clause-is
+returns-in-None-clause-is c =
+    if_ok_map _ _ c.surrogates_at.result c.surrogates_at.ensures.ok (λ p r. inr (c.in_ok-unit.unit, c.in_ok-unit.left.now, r.1, c.in_ok-unit.ensures.ok.0, r.0, r.2.0, r.3))
