@@ -8,6 +8,8 @@ pub mod Turns
 pub mod MemberTurns
 pub mod Blanks
 pub mod ScalarReads
+pub mod FaultScalars
 pub mod Steps
+pub mod FaultSteps
 pub mod Skipping
 pub mod Texts

@@ -5,13 +5,14 @@ use Rattle.std.proofs.Math.Seq.{take-append_seam}
 use Rattle.sx_tree.specs.declared.json.Scalar.TheVariants.{Str, Number, Bool, Null}
 use Rattle.sx_tree.specs.Number.{IsNumber, IsDigit, AreDigits, AreSomeDigits, IsMinus, IsInt, IsFrac, IsSign, IsExp, BeginsNumber, IsLongestFront}
 use Rattle.sx_tree.specs.Value.{Value, scalar, Values, no_values, value_then, Fields, no_fields, field_then}
-use Rattle.sx_json.specs.Grammar.{IsBlank, ValueAt, MoreElementsAt, MoreMembersAt}
-use Rattle.sx_json.specs.Frames.{Close, Awaits, BeginsNumberAt, BeginsScalar, NoValue, ReadsScalar}
+use Rattle.sx_json.specs.Faults.{IsFirst}
+use Rattle.sx_json.specs.Grammar.{IsBlank, BeginsNumberAt, ValueAt, MoreElementsAt, MoreMembersAt}
+use Rattle.sx_json.specs.Frames.{Close, Awaits, BeginsScalar, NoValue, ReadsScalar}
 use Rattle.sx_json.specs.Reading.{ReadsText, NoText}
 use Rattle.sx_json.specs.declared.reader.Frame.{Frame}
 use Rattle.sx_json.specs.declared.reader.Frame.TheVariants.{Array, Member}
 use Rattle.sx_json.proofs.StringShapes.{heads}
-use Rattle.sx_json.proofs.Values.{IsFirst, blank_small, Led-here, Led-from, First, a_string, a_number, a_true, a_false, a_null, an_array, an_object, first_of}
+use Rattle.sx_json.proofs.Values.{blank_small, Led-here, Led-from, First, a_string, a_number, a_true, a_false, a_null, an_array, an_object, first_of}
 use Rattle.sx_json.proofs.Turns.{Led-solid, no_string, no_value, nothing_awaited, string_read}
 
 -- what may stand behind a value
@@ -35,7 +36,7 @@ close_first (Member members name ∷ frames) room x v byte rest h = by_fields h.
     by_fields (field_then n y ys) left (inl p) = inr (inl (heads byte 44 rest p.0 p.1).0)
     by_fields (field_then n y ys) left (inr b) = inl (blank_small byte b.0)
 
-abbrev IsNumberByte : ℕ → Type 0
+abbrev pub IsNumberByte : ℕ → Type 0
 IsNumberByte byte = IsDigit byte ⊎ ((byte ≡ 43) ⊎ ((byte ≡ 45) ⊎ ((byte ≡ 46) ⊎ ((byte ≡ 69) ⊎ (byte ≡ 101)))))
 
 abbrev pub AreNumberBytes : List ℕ → Type 0

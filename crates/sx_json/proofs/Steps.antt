@@ -18,10 +18,10 @@ use Rattle.sx_json.proofs.Turns.{array_opens, no_array, object_opens, no_object,
 use Rattle.sx_json.proofs.MemberTurns.{object_ends, members_begin, no_members_at_end, member_follows, object_closes, no_member, object_open_at_end, name_read, no_colon, no_name, no_name_at_end, no_name_text, name_again, name_taken}
 use Rattle.sx_json.proofs.Blanks.{blanks_go}
 
-reverse_push : (frames : List Frame) (f : Frame) → reverse (frames ++ f ∷ []) ≡ f ∷ reverse frames
+pub reverse_push : (frames : List Frame) (f : Frame) → reverse (frames ++ f ∷ []) ≡ f ∷ reverse frames
 reverse_push frames f = grind (arith, common_steps)
 
-length_pushed : (frames : List Frame) (f : Frame) → length (frames ++ f ∷ []) ≡ length frames + 1
+pub length_pushed : (frames : List Frame) (f : Frame) → length (frames ++ f ∷ []) ≡ length frames + 1
 length_pushed frames f = length-append frames (f ∷ [])
 
 scalar_is : (s : Scalar) → value_of (json.Scalar s) ≡ scalar s

@@ -8,9 +8,10 @@ use Rattle.std.specs.Char.{IsScalar}
 use Rattle.std.specs.Str.{IsValidUpTo}
 use Rattle.sx_json.specs.Strings.{IsShortEscape, IsHexDigit, UnitAt, IsHighSurrogate, IsLowSurrogate, pair_char}
 use Rattle.sx_json.specs.Front.{IsStringFront}
+use Rattle.sx_json.proofs.Results.{unless_map}
 use Rattle.sx_json.proofs.StringShapes.{string_extends}
 use Rattle.sx_json.specs.Reading.{UnlessMemory}
-use Rattle.sx_json.specs.StringFaults.{UnicodeAt, EscapeAt, PieceAt, StringFault, QuoteFault, FrontFault, cut}
+use Rattle.sx_json.specs.StringFaults.{UnicodeAt, EscapeAt, PieceAt, StringFault, QuotedFault, QuoteFault, FrontFault, cut}
 use Rattle.sx_json.specs.declared.fault.JsonFault.{JsonFault}
 
 pub split_ascii : (xs ys : List ℕ) (b : ℕ) → b < 128 → IsUtf8 (xs ++ b ∷ ys) → IsUtf8 xs × IsUtf8 ys
@@ -23,6 +24,9 @@ split_ascii xs ys b small u =
 
 pub tail_ascii : (b : ℕ) (rest : List ℕ) → b < 128 → IsUtf8 (b ∷ rest) → IsUtf8 rest
 tail_ascii b rest small u = (split_ascii [] rest b small u).1
+
+pub utf8_behind : (b : ℕ) (bytes rest : List ℕ) → b < 128 → bytes ≡ b ∷ rest → IsUtf8 bytes → IsUtf8 rest
+utf8_behind b bytes rest small is u = tail_ascii b rest small (subst IsUtf8 is u)
 
 hex_small : (byte digit : ℕ) → IsHexDigit byte digit → byte < 128
 hex_small byte digit (inl p) = omega (arith, p.1)
@@ -78,6 +82,12 @@ piece_keeps content (byte ∷ bytes) begun after (inr (is, character, escape, st
 -- The place of the opening quote.
 pub from_quote : (end start place count : ℕ) (bytes : List ℕ) (f : JsonFault) → place ≡ end - length bytes → start ≡ place - 1 → StringFault end start count bytes f → StringFault end (end - length bytes - 1) count bytes f
 from_quote end start place count bytes f at before h = subst (λ s. StringFault end s count bytes f) (before ∙ ap (λ p. p - 1) at) h
+
+-- The string behind its opening quote.
+pub quoted_fault : (end : ℕ) (bytes inside : List ℕ) (f : JsonFault) → bytes ≡ 34 ∷ inside → UnlessMemory (StringFault end (end - length inside - 1) 0 inside) f → UnlessMemory (QuotedFault end bytes) f
+quoted_fault end bytes inside f is h =
+    let start : end - length inside - 1 ≡ end - length bytes = omega (arith, ap length is) in
+    unless_map (StringFault end (end - length inside - 1) 0 inside) (QuotedFault end bytes) f (λ p. (inside, is, subst (λ s. StringFault end s 0 inside f) start p)) h
 
 -- A string at the front of what is in UTF-8 stands at the front of the whole.
 pub front_extends : (text content : List ℕ) (used valid : ℕ) → IsStringFront (take valid text) content used → (u : ℕ) × IsStringFront text content u

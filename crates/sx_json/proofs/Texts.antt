@@ -1,9 +1,15 @@
 -- The value of a whole text.
-use Rattle.std.proofs.Common.{◌≡◌, ℕ, List, [], refl, subst, arith, IsUtf8}
+use Rattle.std.proofs.Common.{◌≡◌, ℕ, inl, inr, List, [], refl, ap, subst, arith, length, take, IsUtf8}
 use Rattle.sx_tree.specs.declared.json.Json.{Json}
 use Rattle.sx_tree.specs.Value.{Value, value_of}
 use Rattle.sx_json.specs.Grammar.{Led, Skips, Spells, ValueAt}
 use Rattle.sx_json.specs.Frames.{Follows, Steps, Stuck}
+use Rattle.std.proofs.lemmas.List.{length-take-le}
+use Rattle.std.specs.Str.{IsValidUpTo}
+use Rattle.sx_json.specs.Faults.{Faults, TextFault}
+use Rattle.sx_json.specs.StringFaults.{cut}
+use Rattle.sx_json.specs.Reading.{UnlessMemory}
+use Rattle.sx_json.specs.declared.fault.JsonFault.{JsonFault}
 use Rattle.sx_json.specs.Outcome.{Reads}
 use Rattle.sx_json.specs.declared.reader.Frame.{Frame}
 use Rattle.sx_json.specs.declared.reader.Turn.{Turn}
@@ -37,3 +43,8 @@ Follows-Spells text v utf8 (room, e, h) =
     let is_room : room ≡ 256 = omega (arith, e) in
     let led = subst (λ r. Led (λ b. ValueAt h.0 r b h.1) text) is_room h.2 in
     (utf8, h.1, subst (λ x. Led (λ b. ValueAt x 256 b h.1) text) h.3.0 led, h.3.1)
+
+pub cut_fault : (text : List ℕ) (valid : ℕ) (f : JsonFault) → (IsUtf8 text → ⊥) → IsValidUpTo text valid → UnlessMemory (TextFault (length (take valid text)) (take valid text)) f → UnlessMemory (Faults text) (cut valid f)
+cut_fault text valid f none at (inl e) = inl (ap (cut valid) e)
+cut_fault text valid f none at (inr h) =
+    let counted : length (take valid text) ≡ valid = length-take-le valid text (omega (arith, at.short)) in inr (inr (none, valid, at, inl (f, subst (λ n. TextFault n (take valid text) f) counted h, refl)))

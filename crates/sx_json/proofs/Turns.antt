@@ -7,12 +7,13 @@ use Rattle.sx_tree.specs.Number.{IsDigit}
 use Rattle.sx_tree.specs.Value.{Value, scalar, array, object, Values, no_values, value_then, Fields, value_of, values_of}
 use Rattle.sx_json.specs.Strings.{TextAt}
 use Rattle.sx_json.specs.Reading.{ReadsText, NoText}
+use Rattle.sx_json.specs.Faults.{IsFirst}
 use Rattle.sx_json.specs.Grammar.{IsBlank, Led, ValueAt, ElementsAt, MoreElementsAt, MembersAt, names_in}
 use Rattle.sx_json.specs.Frames.{Close, Awaits, AwaitsElements, AwaitsMembers, append_values}
 use Rattle.sx_json.specs.declared.reader.Frame.{Frame}
 use Rattle.sx_json.specs.declared.reader.Frame.TheVariants.{Array}
 use Rattle.sx_json.proofs.StringShapes.{heads, nothing_there}
-use Rattle.sx_json.proofs.Values.{blank_small, Led-here, Led-from, First, a_string, a_number, a_true, a_false, a_null, an_array, an_object, first_of, no_value_of_nothing, IsFirst, no_value_from}
+use Rattle.sx_json.proofs.Values.{blank_small, Led-here, Led-from, First, a_string, a_number, a_true, a_false, a_null, an_array, an_object, first_of, no_value_of_nothing, no_value_from}
 
 digit_apart : (byte : ℕ) → (byte ≡ 45) ⊎ IsDigit byte → (byte ≤ 57) × (45 ≤ byte)
 digit_apart byte (inl e) = (omega (arith, e), omega (arith, e))

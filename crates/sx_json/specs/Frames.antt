@@ -1,9 +1,8 @@
 -- What may follow where the reading of a text stands, so that the whole text spells a value: for the
 -- reader's own functions.
-use Rattle.std.specs.Prelude.{ℕ, zero, suc, ◌≡◌, ◌+◌, ◌<◌, ◌≤◌, ◌⊎◌, List, [], ◌∷◌, length, reverse}
+use Rattle.std.specs.Prelude.{ℕ, zero, suc, ◌≡◌, ◌+◌, ◌<◌, ◌≤◌, List, [], ◌∷◌, length, reverse}
 use Rattle.sx_tree.specs.declared.json.Scalar.{Scalar}
 use Rattle.sx_tree.specs.Names.{AreDistinct}
-use Rattle.sx_tree.specs.Number.{IsDigit}
 use Rattle.sx_tree.specs.Value.{Value, scalar, array, object, Values, no_values, value_then, Fields, no_fields, field_then, value_of, values_of, fields_of}
 use Rattle.sx_json.specs.Grammar.{AreBlanks, IsSolid, BeginsOther, Led, NameThen, ValueAt, ElementsAt, MoreElementsAt, MembersAt, MoreMembersAt, names_in}
 use Rattle.sx_json.specs.declared.reader.Frame.{Frame}
@@ -87,7 +86,3 @@ HasRoom (turn.After x) frames = length frames ≤ 256
 -- neither white space nor an opening bracket or brace begins the bytes
 abbrev pub BeginsScalar : List ℕ → Type 0
 BeginsScalar bytes = IsSolid bytes × BeginsOther 91 bytes × BeginsOther 123 bytes
-
--- a minus or a digit begins the bytes
-abbrev pub BeginsNumberAt : List ℕ → Type 0
-BeginsNumberAt bytes = (byte : ℕ) × (rest : List ℕ) × (bytes ≡ byte ∷ rest) × ((byte ≡ 45) ⊎ IsDigit byte)

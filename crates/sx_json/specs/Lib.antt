@@ -6,4 +6,6 @@ pub mod Grammar
 pub mod Frames
 pub mod Outcome
 pub mod StringFaults
+pub mod Faults
+pub mod FaultFrames
 pub mod Front

@@ -79,9 +79,13 @@ pub data StringFault (end start : ℕ) : ℕ → List ℕ → JsonFault → Type
   behind : (count : ℕ) (bytes content after : List ℕ) (f : JsonFault) → PieceAt bytes content after → count + length content ≤ 1_048_576 → StringFault end start (count + length content) after f
       → StringFault end start count bytes f
 
--- In the string that begins the bytes.
+-- In the string whose opening quote begins the bytes.
+abbrev pub QuotedFault : ℕ → List ℕ → JsonFault → Type 0
+QuotedFault end bytes f = (inside : List ℕ) × (bytes ≡ 34 ∷ inside) × StringFault end (end - length bytes) 0 inside f
+
+-- Where a string is to come.
 abbrev pub QuoteFault : ℕ → List ℕ → JsonFault → Type 0
-QuoteFault end bytes f = (BeginsOther 34 bytes × (f ≡ unexpected end bytes)) ⊎ ((inside : List ℕ) × (bytes ≡ 34 ∷ inside) × StringFault end (end - length bytes) 0 inside f)
+QuoteFault end bytes f = (BeginsOther 34 bytes × (f ≡ unexpected end bytes)) ⊎ QuotedFault end bytes f
 
 -- What the fault of the bytes in UTF-8 at the front of a text is for the text, where other bytes follow them:
 -- it goes on with none of these.
