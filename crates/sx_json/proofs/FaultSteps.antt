@@ -1,5 +1,5 @@
 -- What is wrong behind a step of the reader is wrong before it, and what it refuses is wrong there.
-use Rattle.std.proofs.Common.{◌≡◌, ℕ, zero, suc, ◌-◌, ◌≤◌, ◌<◌, ◌⊎◌, inl, inr, List, [], ◌∷◌, ◌++◌, refl, ap, sym, ◌∙◌, subst, arith, append_assoc, length, reverse, Contains}
+use Rattle.std.proofs.Common.{Bool, true, false, IsTrue, ◌↔◌, ◌≡◌, ℕ, zero, suc, ◌-◌, ◌≤◌, ◌<◌, ◌⊎◌, inl, inr, List, [], ◌∷◌, ◌++◌, refl, ap, sym, ◌∙◌, subst, arith, append_assoc, length, reverse, Contains}
 use Rattle.std.proofs.lemmas.List.{append-nil}
 use Rattle.sx_tree.specs.declared.json.Scalar.{Scalar}
 use Rattle.sx_tree.specs.declared.json.Json as json
@@ -259,6 +259,10 @@ keeps_name end frames bytes inside name after colon rest members is text fresh s
     by_next : Next (λ b. AwaitsFault end (Member members name ∷ reverse frames) r b f) rest → GoesFault end (turn.Name members) (reverse frames) (suc r) bytes f
     by_next (d, s, solid, inl h) = inl (0, inr (name, new_name (names_of members) name (λ x. ValueFault end r x f) bytes inside after colon rest is text fresh skips at (d, s, solid, h)))
     by_next (d, s, solid, inr h) = behind_value d s solid h.0 h.1 h.2 h.3.0 h.3.1 h.3.2 (h.3.3 fresh)
+
+pub fresh_name : (names : List (List ℕ)) (name : List ℕ) (found : Bool) → IsTrue found ↔ Contains names name → found ≡ false → Contains names name → ⊥
+fresh_name names name found has absent there =
+    let yes : found ≡ true = has.1 there in cc
 
 -- In a name.
 pub wrong_name : (end : ℕ) (frames : List Frame) (bytes : List ℕ) (members : List (List ℕ × Json)) (f : JsonFault) → IsSolid bytes → length frames < 256 → MemberNameFault end (names_of members) bytes f → FollowsFault end (turn.Name members) frames bytes f

@@ -1,5 +1,5 @@
 //! Reads a JSON text, token by token, with the open arrays and objects on a stack.
-ghost use Rattle.std.specs.Prelude.{◌≡◌, ◌<◌, ◌≤◌, ◌∷◌, ◌++◌, [], ℕ, IfErr, IfOk, IsUtf8, length};
+ghost use Rattle.std.specs.Prelude.{◌≡◌, ◌<◌, ◌≤◌, ◌∷◌, ◌++◌, ◌↔◌, [], ℕ, Contains, IfErr, IfOk, IsTrue, IsUtf8, length};
 ghost use Rattle.std.specs.Str.{IsValidUpTo};
 ghost use Rattle.sx_tree.specs.Names.{AreDistinct, names_of};
 ghost use Rattle.sx_tree.specs.Value.{Value, value_of};
@@ -127,6 +127,16 @@ fn first_name<'a>(alloc: Global, frames: &Stack<Frame>, bytes: &'a [u8]) -> (Tur
     }
 }
 
+/// Whether a member has the name.
+fn has_name(members: &Members, name: &Text) -> bool
+    ensures { IsTrue result ↔ Contains (names_of members.now) name.now }
+{
+    match members.find(name) {
+        Some(_) => true,
+        None => false,
+    }
+}
+
 /// Goes on where a name is awaited.
 fn name_at<'a>(
     alloc: Global,
@@ -153,7 +163,7 @@ fn name_at<'a>(
         Ok(read) => read,
         Err(fault) => return Err(fault),
     };
-    if let Some(earlier) = members.find(&name) {
+    if has_name(&members, &name) {
         return Err(JsonFault::DuplicateName { at });
     }
     let colon = skip_blanks(after);
