@@ -1,12 +1,10 @@
 -- What is wrong in a scalar, and where a whole one ends.
-use Rattle.std.proofs.Common.{◌≡◌, ℕ, ◌+◌, ◌≤◌, ◌<◌, ◌⊎◌, inl, inr, List, [], ◌∷◌, ◌++◌, ap, sym, ◌∙◌, subst, arith, append_assoc, length, take, drop, min, IsUtf8, codes}
+use Rattle.std.proofs.Common.{refl, ◌≡◌, ℕ, ◌+◌, ◌≤◌, ◌<◌, ◌⊎◌, inl, inr, List, [], ◌∷◌, ◌++◌, ap, sym, ◌∙◌, subst, arith, append_assoc, length, take, drop, min, IsUtf8, codes}
 use Rattle.std.proofs.lemmas.List.{append-nil, length-append, length-take-le, take-take, take-append-drop}
 use Rattle.std.proofs.lemmas.Bool.{cases_lt}
-use Rattle.std.proofs.Math.Seq.{take-append-add}
+use Rattle.std.proofs.Math.Seq.{take-append-add, take-append_seam}
 use Rattle.sx_tree.specs.Number.{IsNumber, BeginsNumber, IsLongestFront}
 use Rattle.sx_json.specs.Grammar.{AreBlanks, Skips}
-use Rattle.sx_json.specs.Faults.{IsLiteralName, WordFault, NameFault}
-use Rattle.sx_json.specs.declared.fault.JsonFault.{JsonFault}
 use Rattle.sx_json.proofs.StringTexts.{tail_ascii}
 use Rattle.sx_json.proofs.Values.{blank_small}
 use Rattle.sx_json.proofs.ScalarReads.{IsNumberByte, AreNumberBytes, front_is}
@@ -80,9 +78,27 @@ number_ends bytes len front byte rest is b =
     let fits : len + 1 ≤ length bytes = omega (arith, ap length whole, length-append (take len bytes) (byte ∷ rest), counted) in
     omega (arith, front.longest (len + 1) fits (subst BeginsNumber (sym one_more) b))
 
--- A literal name of which the first letter stands there.
-pub name_breaks : (end letter : ℕ) (more bytes inside : List ℕ) (f : JsonFault) → IsLiteralName (letter ∷ more) → bytes ≡ letter ∷ inside → WordFault end (letter ∷ more) bytes f → NameFault end bytes f
-name_breaks end letter more bytes inside f is first broken = (letter ∷ more, is, λ other. other inside first, broken)
+-- A number that cannot go on is the longest front.
+pub number_longest : (bytes literal after : List ℕ) → IsNumber literal → bytes ≡ literal ++ after → ((byte : ℕ) (rest : List ℕ) → after ≡ byte ∷ rest → BeginsNumber (literal ++ byte ∷ []) → ⊥) → IsLongestFront bytes (length literal)
+number_longest bytes literal after n is ends = record {
+  within = omega (arith, counted);
+  begins = subst BeginsNumber (sym (ap (take (length literal)) is ∙ take-append_seam literal after)) (whole_begins literal n);
+  longest = λ m fits b. longest after is ends m fits b (cases_lt (length literal) m);
+}
+  where
+    counted : length bytes ≡ length literal + length after
+    counted = ap length is ∙ length-append literal after
+
+    longest : (rest : List ℕ) → bytes ≡ literal ++ rest → ((byte : ℕ) (more : List ℕ) → rest ≡ byte ∷ more → BeginsNumber (literal ++ byte ∷ []) → ⊥) → (m : ℕ) → m ≤ length bytes → BeginsNumber (take m bytes)
+        → (length literal < m) ⊎ (m ≤ length literal) → m ≤ length literal
+    longest rest at none m fits b (inr le) = le
+    longest [] at none m fits b (inl lt) = omega (arith, ap length at, length-append literal [])
+    longest (byte ∷ more) at none m fits b (inl lt) =
+        let cut : take (length literal + 1) (take m bytes) ≡ literal ++ byte ∷ [] = take-take (length literal + 1) m bytes (omega arith) ∙ ap (take (length literal + 1)) at ∙ take-append-add literal (byte ∷ more) 1 in
+        absurd (none byte more refl (subst BeginsNumber cut (begins_shorter (take m bytes) (length literal + 1) b)))
+
+pub longest_one : (bytes : List ℕ) (n m : ℕ) → IsLongestFront bytes n → IsLongestFront bytes m → n ≡ m
+longest_one bytes n m p q = omega (arith, p.longest m q.within q.begins, q.longest n p.within p.begins)
 
 pub true_keeps : (left : List ℕ) → IsUtf8 (codes "true" ++ left) → IsUtf8 left
 true_keeps left u = tail_ascii 101 left (omega arith) (tail_ascii 117 (101 ∷ left) (omega arith) (tail_ascii 114 (117 ∷ 101 ∷ left) (omega arith) (tail_ascii 116 (114 ∷ 117 ∷ 101 ∷ left) (omega arith) u)))

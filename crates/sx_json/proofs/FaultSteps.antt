@@ -27,14 +27,14 @@ blanks_append : (xs ys : List ℕ) → AreBlanks xs → AreBlanks ys → AreBlan
 blanks_append [] ys a b = b
 blanks_append (x ∷ xs) ys a b = (a.0, blanks_append xs ys a.1 b)
 
-next_skips : (P : List ℕ → Type 0) (bytes rest : List ℕ) → Skips bytes rest → Next P rest → Next P bytes
+pub next_skips : (P : List ℕ → Type 0) (bytes rest : List ℕ) → Skips bytes rest → Next P rest → Next P bytes
 next_skips P bytes rest s n = (n.0, (s.0 ++ n.1.0, blanks_append s.0 n.1.0 s.1 n.1.1, s.2 ∙ ap (λ l. s.0 ++ l) n.1.2 ∙ sym (append_assoc s.0 n.1.0 n.0)), n.2, n.3)
 
-next_here : (P : List ℕ → Type 0) (bytes : List ℕ) → IsSolid bytes → P bytes → Next P bytes
+pub next_here : (P : List ℕ → Type 0) (bytes : List ℕ) → IsSolid bytes → P bytes → Next P bytes
 next_here P bytes solid p = (bytes, skips_none bytes, solid, p)
 
 -- Where no white space stands, none is skipped.
-skips_solid : (bytes rest : List ℕ) → IsSolid bytes → Skips bytes rest → rest ≡ bytes
+pub skips_solid : (bytes rest : List ℕ) → IsSolid bytes → Skips bytes rest → rest ≡ bytes
 skips_solid bytes rest solid ([], all, is) = sym is
 skips_solid bytes rest solid (b ∷ bs, all, is) = absurd (solid b (bs ++ rest) is all.0)
 
@@ -44,7 +44,7 @@ next_at P bytes solid n = subst P (skips_solid bytes n.0 solid n.1) n.3
 led_skips : (P : List ℕ → Type 0) (bytes rest : List ℕ) → Skips bytes rest → Led P rest → Led P bytes
 led_skips P bytes rest s p = subst (Led P) (sym s.2) (Led-blanks-from P s.0 rest s.1 p)
 
-solid_from : (byte : ℕ) (bytes rest : List ℕ) → 33 ≤ byte → bytes ≡ byte ∷ rest → IsSolid bytes
+pub solid_from : (byte : ℕ) (bytes rest : List ℕ) → 33 ≤ byte → bytes ≡ byte ∷ rest → IsSolid bytes
 solid_from byte bytes rest above is b tail e blank = omega (arith, (heads b byte tail rest (sym e ∙ is)).0, blank_small b blank, above)
 
 elements_skip : (vs : Values) (room : ℕ) (bytes rest left : List ℕ) → Skips bytes rest → ElementsAt vs room rest left → ElementsAt vs room bytes left

@@ -3,6 +3,7 @@ pub mod Units
 pub mod StringShapes
 pub mod StringTexts
 pub mod Results
+pub mod OneStringFault
 pub mod Values
 pub mod Turns
 pub mod MemberTurns
@@ -11,5 +12,6 @@ pub mod ScalarReads
 pub mod FaultScalars
 pub mod Steps
 pub mod FaultSteps
+pub mod OneFault
 pub mod Skipping
 pub mod Texts

@@ -214,12 +214,12 @@ names_in-append : (fs more : Fields) → names_in (append_fields fs more) ≡ na
 names_in-append no_fields more = refl
 names_in-append (field_then name v fs) more = ap (λ l. name ∷ l) (names_in-append fs more)
 
-slice_get_left : (xs ys : List (List ℕ)) (i : ℕ) (x : List ℕ) → slice_get xs i ≡ Some x → slice_get (xs ++ ys) i ≡ Some x
+pub slice_get_left : (xs ys : List (List ℕ)) (i : ℕ) (x : List ℕ) → slice_get xs i ≡ Some x → slice_get (xs ++ ys) i ≡ Some x
 slice_get_left [] ys i x e = absurd (cc)
 slice_get_left (y ∷ xs) ys zero x e = e
 slice_get_left (y ∷ xs) ys (suc i) x e = slice_get_left xs ys i x e
 
-slice_get_seam : (xs ys : List (List ℕ)) (x : List ℕ) → slice_get (xs ++ x ∷ ys) (length xs) ≡ Some x
+pub slice_get_seam : (xs ys : List (List ℕ)) (x : List ℕ) → slice_get (xs ++ x ∷ ys) (length xs) ≡ Some x
 slice_get_seam [] ys x = refl
 slice_get_seam (y ∷ xs) ys x = slice_get_seam xs ys x
 

@@ -64,3 +64,7 @@ memory_alone P OutOfMemory p none = refl
 pub unless_map : (P Q : JsonFault → Type 0) (f : JsonFault) → (P f → Q f) → UnlessMemory P f → UnlessMemory Q f
 unless_map P Q f h (inl e) = inl e
 unless_map P Q f h (inr p) = inr (h p)
+
+pub if_err_unless : {T : Type 0} (P Q : JsonFault → Type 0) (r : Result T JsonFault) → ((f : JsonFault) → P f → Q f) → IfErr r (UnlessMemory P) → IfErr r (UnlessMemory Q)
+if_err_unless P Q (Ok x) h p = tt
+if_err_unless P Q (Err e) h p = unless_map P Q e (h e) p

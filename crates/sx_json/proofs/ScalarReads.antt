@@ -16,25 +16,25 @@ use Rattle.sx_json.proofs.Values.{blank_small, Led-here, Led-from, First, a_stri
 use Rattle.sx_json.proofs.Turns.{Led-solid, no_string, no_value, nothing_awaited, string_read}
 
 -- what may stand behind a value
-abbrev IsEnd : ℕ → Type 0
+abbrev pub IsEnd : ℕ → Type 0
 IsEnd byte = (byte ≤ 32) ⊎ ((byte ≡ 44) ⊎ ((byte ≡ 93) ⊎ (byte ≡ 125)))
+
+pub elements_end : (vs : Values) (room byte : ℕ) (rest left : List ℕ) → MoreElementsAt vs room (byte ∷ rest) left → IsEnd byte
+elements_end no_values room byte rest left (inl e) = inr (inr (inl (heads byte 93 rest left e).0))
+elements_end no_values room byte rest left (inr b) = inl (blank_small byte b.0)
+elements_end (value_then y ys) room byte rest left (inl p) = inr (inl (heads byte 44 rest p.0 p.1).0)
+elements_end (value_then y ys) room byte rest left (inr b) = inl (blank_small byte b.0)
+
+pub members_end : (fs : Fields) (room byte : ℕ) (rest left : List ℕ) → MoreMembersAt fs room (byte ∷ rest) left → IsEnd byte
+members_end no_fields room byte rest left (inl e) = inr (inr (inr (heads byte 125 rest left e).0))
+members_end no_fields room byte rest left (inr b) = inl (blank_small byte b.0)
+members_end (field_then n y ys) room byte rest left (inl p) = inr (inl (heads byte 44 rest p.0 p.1).0)
+members_end (field_then n y ys) room byte rest left (inr b) = inl (blank_small byte b.0)
 
 close_first : (frames : List Frame) (room : ℕ) (x v : Value) (byte : ℕ) (rest : List ℕ) → Close frames room x v (byte ∷ rest) → IsEnd byte
 close_first [] room x v byte rest h = inl (blank_small byte h.1.0)
-close_first (Array items ∷ frames) room x v byte rest h = by_values h.0 h.1 h.2
-  where
-    by_values : (more : Values) (left : List ℕ) → MoreElementsAt more room (byte ∷ rest) left → IsEnd byte
-    by_values no_values left (inl e) = inr (inr (inl (heads byte 93 rest left e).0))
-    by_values no_values left (inr b) = inl (blank_small byte b.0)
-    by_values (value_then y ys) left (inl p) = inr (inl (heads byte 44 rest p.0 p.1).0)
-    by_values (value_then y ys) left (inr b) = inl (blank_small byte b.0)
-close_first (Member members name ∷ frames) room x v byte rest h = by_fields h.0 h.1 h.2
-  where
-    by_fields : (more : Fields) (left : List ℕ) → MoreMembersAt more room (byte ∷ rest) left → IsEnd byte
-    by_fields no_fields left (inl e) = inr (inr (inr (heads byte 125 rest left e).0))
-    by_fields no_fields left (inr b) = inl (blank_small byte b.0)
-    by_fields (field_then n y ys) left (inl p) = inr (inl (heads byte 44 rest p.0 p.1).0)
-    by_fields (field_then n y ys) left (inr b) = inl (blank_small byte b.0)
+close_first (Array items ∷ frames) room x v byte rest h = elements_end h.0 room byte rest h.1 h.2
+close_first (Member members name ∷ frames) room x v byte rest h = members_end h.0 room byte rest h.1 h.2
 
 abbrev pub IsNumberByte : ℕ → Type 0
 IsNumberByte byte = IsDigit byte ⊎ ((byte ≡ 43) ⊎ ((byte ≡ 45) ⊎ ((byte ≡ 46) ⊎ ((byte ≡ 69) ⊎ (byte ≡ 101)))))
@@ -43,7 +43,7 @@ abbrev pub AreNumberBytes : List ℕ → Type 0
 AreNumberBytes [] = Unit {0}
 AreNumberBytes (byte ∷ bytes) = IsNumberByte byte × AreNumberBytes bytes
 
-apart : (byte : ℕ) → IsNumberByte byte → IsEnd byte → ⊥
+pub apart : (byte : ℕ) → IsNumberByte byte → IsEnd byte → ⊥
 apart byte (inl n) (inl e) = omega (arith, n.0, n.1, e)
 apart byte (inl n) (inr (inl e)) = omega (arith, n.0, n.1, e)
 apart byte (inl n) (inr (inr (inl e))) = omega (arith, n.0, n.1, e)
@@ -77,7 +77,7 @@ AreNumberBytes-left : (xs ys : List ℕ) → AreNumberBytes (xs ++ ys) → AreNu
 AreNumberBytes-left [] ys a = tt
 AreNumberBytes-left (x ∷ xs) ys a = (a.0, AreNumberBytes-left xs ys a.1)
 
-AreNumberBytes-at : (xs ys : List ℕ) (byte : ℕ) → AreNumberBytes (xs ++ byte ∷ ys) → IsNumberByte byte
+pub AreNumberBytes-at : (xs ys : List ℕ) (byte : ℕ) → AreNumberBytes (xs ++ byte ∷ ys) → IsNumberByte byte
 AreNumberBytes-at [] ys byte a = a.0
 AreNumberBytes-at (x ∷ xs) ys byte a = AreNumberBytes-at xs ys byte a.1
 

@@ -20,7 +20,7 @@ solid_at rest after b is none byte tail e blank = none (subst IsBlank (heads byt
 pub solid_nothing : (rest : List ℕ) → rest ≡ [] → IsSolid rest
 solid_nothing rest is byte tail e blank = nothing_there byte tail (sym is ∙ e)
 
-same_tail : (word a b : List ℕ) → word ++ a ≡ word ++ b → a ≡ b
+pub same_tail : (word a b : List ℕ) → word ++ a ≡ word ++ b → a ≡ b
 same_tail [] a b e = e
 same_tail (x ∷ xs) a b e = same_tail xs a b (heads x x (xs ++ a) (xs ++ b) e).1
 

@@ -49,7 +49,7 @@ NoLow-range bytes middle low after is reads other u l at =
     let same : at.0 ≡ middle = (seconds 92 117 92 117 at.0 middle (sym at.1 ∙ is)).2 in
     other (subst IsLowSurrogate (reads.1 u l (subst (λ m. UnitAt m u l) same at.2)).0 at.3)
 
-short_not_u : (byte : ℕ) → IsShortEscape 117 byte → ⊥
+pub short_not_u : (byte : ℕ) → IsShortEscape 117 byte → ⊥
 short_not_u byte (inl e) = omega (arith, e.0)
 short_not_u byte (inr (inl e)) = omega (arith, e.0)
 short_not_u byte (inr (inr (inl e))) = omega (arith, e.0)

@@ -53,7 +53,7 @@ unicode_keeps bytes character after (inr (high, middle, low, unit, is_high, at, 
         let least : 0xE000 ≤ pair_char high low = omega (arith, h.0, h.1, l.0, l.1) in
         scalar_above (pair_char high low) least most
 
-short_small : (letter byte : ℕ) → IsShortEscape letter byte → (letter < 128) × (byte < 128)
+pub short_small : (letter byte : ℕ) → IsShortEscape letter byte → (letter < 128) × (byte < 128)
 short_small letter byte (inl e) = (omega (arith, e.0), omega (arith, e.1))
 short_small letter byte (inr (inl e)) = (omega (arith, e.0), omega (arith, e.1))
 short_small letter byte (inr (inr (inl e))) = (omega (arith, e.0), omega (arith, e.1))

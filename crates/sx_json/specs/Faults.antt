@@ -28,7 +28,7 @@ WordFault end word bytes f = (count : ℕ) × (rest : List ℕ) × (count < leng
 
 -- A literal name of which the first letter stands there, and not all.
 abbrev pub NameFault : ℕ → List ℕ → JsonFault → Type 0
-NameFault end bytes f = (word : List ℕ) × IsLiteralName word × (BeginsOther (get_or word 0 0) bytes → ⊥) × WordFault end word bytes f
+NameFault end bytes f = (letter : ℕ) × (more : List ℕ) × (inside : List ℕ) × IsLiteralName (letter ∷ more) × (bytes ≡ letter ∷ inside) × WordFault end (letter ∷ more) bytes f
 
 -- A number of which more than 64 bytes stand there, or no whole one.
 abbrev pub NumberFault : ℕ → List ℕ → JsonFault → Type 0

@@ -82,6 +82,8 @@ pub fn read_string(alloc: Global, text: &[u8]) -> Result<(Text, usize), JsonFaul
     ensures refused { IfErr result (Refuses (NoStringFront text.now)) }
     // It is the fault that is known at the least byte.
     ensures fault { IfErr result (UnlessMemory (FrontFault text.now)) }
+    // It is the only one.
+    ensures no_other { (f : JsonFault) → FrontFault text.now f → IfErr result (UnlessMemory (λ e. e ≡ f)) }
 {
     match string_front(alloc, text) {
         Ok(found) => Ok(found),

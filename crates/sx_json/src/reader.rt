@@ -1,5 +1,5 @@
 //! Reads a JSON text, token by token, with the open arrays and objects on a stack.
-ghost use Rattle.std.specs.Prelude.{◌≡◌, ◌<◌, ◌≤◌, ◌∷◌, ◌++◌, ◌↔◌, [], ℕ, Contains, IfErr, IfOk, IsTrue, IsUtf8, length};
+ghost use Rattle.std.specs.Prelude.{◌≡◌, ◌<◌, ◌≤◌, ◌∷◌, ◌++◌, ◌↔◌, [], ℕ, Contains, IfErr, IfOk, IsTrue, IsUtf8, MatchResult, length};
 ghost use Rattle.std.specs.Str.{IsValidUpTo};
 ghost use Rattle.sx_tree.specs.Names.{AreDistinct, names_of};
 ghost use Rattle.sx_tree.specs.Value.{Value, value_of};
@@ -383,6 +383,8 @@ pub fn read(alloc: Global, text: &[u8]) -> Result<Json, JsonFault>
     ensures refused { IfErr result (Refuses ((v : Value) → Spells text.now v → ⊥)) }
     // A refusal is the fault that is known at the least byte.
     ensures fault { IfErr result (UnlessMemory (Faults text.now)) }
+    // A text with a fault is refused with it, and with no other.
+    ensures no_other { (f : JsonFault) → Faults text.now f → MatchResult result (λ _. ⊥) (UnlessMemory (λ e. e ≡ f)) }
 {
     match str::from_utf8(text) {
         Ok(_) => read_front(alloc, text),

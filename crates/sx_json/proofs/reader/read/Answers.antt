@@ -1,11 +1,13 @@
-use Rattle.std.proofs.Common.{◌≡◌, []}
+use Rattle.std.proofs.Common.{◌≡◌, [], inl, length, IsUtf8}
+use Rattle.sx_json.specs.Faults.{Faults, TextFault}
+use Rattle.sx_json.proofs.OneFault.{faults_one, only_fault}
 use Rattle.sx_tree.specs.Value.{Value, value_of}
 use Rattle.sx_json.specs.Frames.{Stuck}
 use Rattle.sx_json.specs.Grammar.{Spells}
 use Rattle.sx_json.specs.Outcome.{Reads}
 use Rattle.sx_json.specs.declared.reader.Turn.TheVariants as turn
-use Rattle.sx_json.proofs.Results.{if_ok_map, if_refuses_map}
-use Rattle.sx_json.proofs.Texts.{Spells-Follows}
+use Rattle.sx_json.proofs.Results.{if_ok_map, if_refuses_map, if_err_unless, unless_map}
+use Rattle.sx_json.proofs.Texts.{Spells-Follows, Follows-Spells}
 use Rattle.sx_json.proofs.reader.read.Goals as goal
 
 pub returns-in-Ok-clause-only : goal.returns-in-Ok-clause-only
@@ -15,3 +17,14 @@ returns-in-Ok-clause-only c = λ v s.
 pub returns-in-Ok-clause-refused : goal.returns-in-Ok-clause-refused
 returns-in-Ok-clause-refused c =
     if_refuses_map (Stuck turn.Value [] c.args.text.now) ((v : Value) → Spells c.args.text.now v → ⊥) c.read_front.result (λ stuck v s. stuck v (Spells-Follows c.args.text.now v s)) c.read_front.ensures.err
+
+pub returns-in-Ok-clause-no_other : goal.returns-in-Ok-clause-no_other
+returns-in-Ok-clause-no_other c = λ f h.
+    let text = c.args.text.now in
+    let utf8 : IsUtf8 text = c.in-Ok.ensures.cases.1 in
+    let spelled = if_ok_map (Reads text) (λ json. Spells text (value_of json)) c.read_front.result c.read_front.ensures.ok (λ x r. Follows-Spells text (value_of x) utf8 r.0) in
+    only_fault text c.read_front.result spelled (if_err_unless (TextFault (length text) text) (Faults text) c.read_front.result (λ e k. inl (utf8, k)) c.read_front.ensures.fault) f h
+
+pub returns-in-Err-clause-no_other : goal.returns-in-Err-clause-no_other
+returns-in-Err-clause-no_other c = λ f h.
+    unless_map (Faults c.args.text.now) (λ e. e ≡ f) c.fault_before.result (λ k. faults_one c.args.text.now c.fault_before.result f k h) c.fault_before.ensures
