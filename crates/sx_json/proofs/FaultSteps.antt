@@ -75,9 +75,6 @@ more_members_skip : (fs : Fields) (room : ℕ) (bytes rest left : List ℕ) → 
 more_members_skip no_fields room bytes rest left s h = led_skips (λ b. b ≡ 125 ∷ left) bytes rest s h
 more_members_skip (field_then name v fs) room bytes rest left s h = led_skips (λ b. (behind : List ℕ) × (b ≡ 44 ∷ behind) × Led (NameThen name (Rest v room fs left)) behind) bytes rest s h
 
-pub keeps_trans : (end : ℕ) (t u w : Turn) (f g h : List Frame) (a b c : List ℕ) → KeepsFaults end t f a u g b → KeepsFaults end u g b w h c → KeepsFaults end t f a w h c
-keeps_trans end t u w f g h a b c first second fault x = first fault (second fault x)
-
 pub keeps_blanks : (end : ℕ) (t : Turn) (frames : List Frame) (bytes rest : List ℕ) → Skips bytes rest → KeepsFaults end t frames bytes t frames rest
 keeps_blanks end t frames bytes rest s f (room, e, n) = (room, e, next_skips (λ b. GoesFault end t (reverse frames) room b f) bytes rest s n)
 

@@ -4,8 +4,8 @@ use Rattle.std.proofs.lemmas.List.{get_or-take, length-take-le, take-take}
 use Rattle.std.proofs.lemmas.Str.{utf8_valid_len-IsValidUpTo}
 use Rattle.std.specs.Str.{IsValidUpTo}
 use Rattle.sx_tree.specs.declared.json.Json.{Json}
-use Rattle.sx_json.specs.Reading.{UnlessMemory}
-use Rattle.sx_json.proofs.Results.{unless_map}
+use Rattle.sx_json.specs.Reading.{Refuses, UnlessMemory}
+use Rattle.sx_json.proofs.Results.{refuses_all, unless_map}
 use Rattle.std.proofs.lemmas.Bool.{cases_lt, cases_order}
 use Rattle.std.proofs.Math.Seq.{take-append_seam, drop-append_seam}
 use Rattle.sx_json.proofs.Skipping.{same_tail, word_differs}
@@ -618,3 +618,8 @@ front_faults_one text f g (inr (none, n, x, at, h, is)) (inr (no_text, m, y, to,
 pub only_fault : (text : List ℕ) (r : Result Json JsonFault) → IfOk r (λ json. Spells text (value_of json)) → IfErr r (UnlessMemory (Faults text)) → (f : JsonFault) → Faults text f → MatchResult r (λ _. ⊥) (UnlessMemory (λ e. e ≡ f))
 only_fault text (Ok json) spelled fault f h = spells_no_fault text (value_of json) f spelled h
 only_fault text (Err e) spelled fault f h = unless_map (Faults text) (λ g. g ≡ f) e (λ k. faults_one text e f k h) fault
+
+pub fault_refused : (text : List ℕ) (r : Result Json JsonFault) → IfErr r (UnlessMemory (Faults text)) → IfErr r (Refuses ((v : Value) → Spells text v → ⊥))
+fault_refused text (Ok json) h = tt
+fault_refused text (Err e) (inl is) = subst (Refuses ((v : Value) → Spells text v → ⊥)) (sym is) tt
+fault_refused text (Err e) (inr h) = refuses_all ((v : Value) → Spells text v → ⊥) e (λ v s. spells_no_fault text v e s h)

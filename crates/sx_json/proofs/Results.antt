@@ -32,14 +32,6 @@ refuses_all P (StringTooLong place) p = p
 refuses_all P Ended p = p
 refuses_all P OutOfMemory p = tt
 
-pub if_err_refuses : {T : Type 0} (P : Type 0) (r : Result T JsonFault) → P → IfErr r (Refuses P)
-if_err_refuses P (Ok x) p = tt
-if_err_refuses P (Err e) p = refuses_all P e p
-
-pub if_refuses_map : {T : Type 0} (P Q : Type 0) (r : Result T JsonFault) → (P → Q) → IfErr r (Refuses P) → IfErr r (Refuses Q)
-if_refuses_map P Q (Ok x) h p = tt
-if_refuses_map P Q (Err e) h p = refuses_map P Q e h p
-
 pub refuses_here : (P : Type 0) (f : JsonFault) → Refuses P f → (f ≡ OutOfMemory → ⊥) → P
 refuses_here P (BadByte place) p other = p
 refuses_here P (TooDeep place) p other = p

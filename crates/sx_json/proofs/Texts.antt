@@ -3,7 +3,7 @@ use Rattle.std.proofs.Common.{◌≡◌, ℕ, inl, inr, List, [], refl, ap, subs
 use Rattle.sx_tree.specs.declared.json.Json.{Json}
 use Rattle.sx_tree.specs.Value.{Value, value_of}
 use Rattle.sx_json.specs.Grammar.{Led, Skips, Spells, ValueAt}
-use Rattle.sx_json.specs.Frames.{Follows, Steps, Stuck}
+use Rattle.sx_json.specs.Frames.{Follows, Steps}
 use Rattle.std.proofs.lemmas.List.{length-take-le}
 use Rattle.std.specs.Str.{IsValidUpTo}
 use Rattle.sx_json.specs.Faults.{Faults, TextFault}
@@ -14,7 +14,7 @@ use Rattle.sx_json.specs.Outcome.{Reads}
 use Rattle.sx_json.specs.declared.reader.Frame.{Frame}
 use Rattle.sx_json.specs.declared.reader.Turn.{Turn}
 use Rattle.sx_json.specs.declared.reader.Turn.TheVariants as turn
-use Rattle.sx_json.proofs.Steps.{step_blanks, step_trans, stuck_after}
+use Rattle.sx_json.proofs.Steps.{step_blanks, step_trans}
 
 pub steps_none : (text : List ℕ) → Steps turn.Value [] text turn.Value [] text
 steps_none text v = (λ h. h, λ h. h)
@@ -22,10 +22,6 @@ steps_none text v = (λ h. h, λ h. h)
 pub goes_on : (t next : Turn) (frames new : List Frame) (text rest bytes after : List ℕ) → Steps turn.Value [] text t frames rest → Skips rest bytes → Steps t frames bytes next new after → Steps turn.Value [] text next new after
 goes_on t next frames new text rest bytes after begun skips step =
     step_trans turn.Value t next [] frames new text bytes after (step_trans turn.Value t t [] frames frames text rest bytes begun (step_blanks t frames rest bytes skips)) step
-
-pub stuck_there : (t : Turn) (frames : List Frame) (text rest bytes : List ℕ) → Steps turn.Value [] text t frames rest → Skips rest bytes → Stuck t frames bytes → Stuck turn.Value [] text
-stuck_there t frames text rest bytes begun skips stuck =
-    stuck_after turn.Value t [] frames text bytes (step_trans turn.Value t t [] frames frames text rest bytes begun (step_blanks t frames rest bytes skips)) stuck
 
 pub done_reads : (t : Turn) (frames : List Frame) (text rest bytes : List ℕ) (x : Json) → Steps turn.Value [] text t frames rest → Skips rest bytes → (frames ≡ []) × (bytes ≡ []) × (t ≡ turn.After x) → Reads text x
 done_reads t frames text rest bytes x begun skips done =

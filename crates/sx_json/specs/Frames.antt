@@ -60,9 +60,6 @@ Goes (turn.After x) frames room v rest = Close frames room (value_of x) v rest
 abbrev pub ReadsScalar : List ℕ → Scalar → List ℕ → Type 0
 ReadsScalar bytes s left = (frames : List Frame) (room : ℕ) (v : Value) → (Awaits frames room v bytes → Close frames room (scalar s) v left) × (Close frames room (scalar s) v left → Awaits frames room v bytes)
 
-abbrev pub NoValue : List ℕ → Type 0
-NoValue bytes = (frames : List Frame) (room : ℕ) (v : Value) → Awaits frames room v bytes → ⊥
-
 -- At a turn, with these frames, the innermost last: the bytes may follow in a text that spells v.
 abbrev pub Follows : Turn → List Frame → Value → List ℕ → Type 0
 Follows t frames v bytes = (room : ℕ) × (room + length frames ≡ 256) × Goes t (reverse frames) room v bytes
@@ -70,10 +67,6 @@ Follows t frames v bytes = (room : ℕ) × (room + length frames ≡ 256) × Goe
 -- One step changes nothing of what the text may spell.
 abbrev pub Steps : Turn → List Frame → List ℕ → Turn → List Frame → List ℕ → Type 0
 Steps t frames bytes t' frames' bytes' = (v : Value) → (Follows t frames v bytes → Follows t' frames' v bytes') × (Follows t' frames' v bytes' → Follows t frames v bytes)
-
--- The text spells nothing.
-abbrev pub Stuck : Turn → List Frame → List ℕ → Type 0
-Stuck t frames bytes = (v : Value) → Follows t frames v bytes → ⊥
 
 -- At most 256 nest, with the array or object that the turn is in.
 abbrev pub HasRoom : Turn → List Frame → Type 0

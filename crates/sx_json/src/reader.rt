@@ -3,7 +3,7 @@ ghost use Rattle.std.specs.Prelude.{◌≡◌, ◌<◌, ◌≤◌, ◌∷◌, �
 ghost use Rattle.std.specs.Str.{IsValidUpTo};
 ghost use Rattle.sx_tree.specs.Names.{AreDistinct, names_of};
 ghost use Rattle.sx_tree.specs.Value.{Value, value_of};
-ghost use Rattle.sx_json.specs.Frames.{Follows, HasRoom, Steps, Stuck};
+ghost use Rattle.sx_json.specs.Frames.{Follows, HasRoom, Steps};
 ghost use Rattle.sx_json.specs.Grammar.{BeginsOther, IsSolid, Spells};
 ghost use Rattle.sx_json.specs.Faults.{Faults, TextFault};
 ghost use Rattle.sx_json.specs.FaultFrames.{FollowsFault, GoesOn};
@@ -60,7 +60,6 @@ fn value_at<'a>(
     requires utf8 { IsUtf8 bytes.now }
     ensures room { IfOk result (λ p. HasRoom p.0 frames.now) }
     ensures ok { IfOk result (λ p. Steps Turn.Value frames.now bytes.now p.0 frames.now p.1.now) }
-    ensures err { IfErr result (Refuses (Stuck Turn.Value frames.now bytes.now)) }
     ensures keeps { IfOk result (λ p. GoesOn end Turn.Value frames.now bytes.now p.0 frames.now p.1.now) }
     ensures fault { IfErr result (UnlessMemory (FollowsFault end Turn.Value frames.now bytes.now)) }
 {
@@ -150,7 +149,6 @@ fn name_at<'a>(
     requires utf8 { IsUtf8 bytes.now }
     ensures room { IfOk result (λ p. HasRoom p.0 frames.new) }
     ensures ok { IfOk result (λ p. Steps (Turn.Name members) frames.old bytes.now p.0 frames.new p.1.now) }
-    ensures err { IfErr result (Refuses (Stuck (Turn.Name members) frames.old bytes.now)) }
     ensures keeps { IfOk result (λ p. GoesOn end (Turn.Name members) frames.old bytes.now p.0 frames.new p.1.now) }
     ensures fault { IfErr result (UnlessMemory (FollowsFault end (Turn.Name members) frames.old bytes.now)) }
 {
@@ -189,7 +187,6 @@ fn after_element<'a>(
     requires utf8 { IsUtf8 bytes.now }
     ensures room { IfOk result (λ p. HasRoom p.0 frames.new) }
     ensures ok { IfOk result (λ p. Steps (Turn.After value) (frames.old ++ Frame.Array items ∷ []) bytes.now p.0 frames.new p.1.now) }
-    ensures err { IfErr result (Refuses (Stuck (Turn.After value) (frames.old ++ Frame.Array items ∷ []) bytes.now)) }
     ensures keeps { IfOk result (λ p. GoesOn end (Turn.After value) (frames.old ++ Frame.Array items ∷ []) bytes.now p.0 frames.new p.1.now) }
     ensures fault { IfErr result (UnlessMemory (FollowsFault end (Turn.After value) (frames.old ++ Frame.Array items ∷ []) bytes.now)) }
 {
@@ -222,7 +219,6 @@ fn after_member<'a>(
     requires utf8 { IsUtf8 bytes.now }
     ensures room { IfOk result (λ p. HasRoom p.0 frames.now) }
     ensures ok { IfOk result (λ p. Steps (Turn.After value) (frames.now ++ Frame.Member members name ∷ []) bytes.now p.0 frames.now p.1.now) }
-    ensures err { IfErr result (Refuses (Stuck (Turn.After value) (frames.now ++ Frame.Member members name ∷ []) bytes.now)) }
     ensures keeps { IfOk result (λ p. GoesOn end (Turn.After value) (frames.now ++ Frame.Member members name ∷ []) bytes.now p.0 frames.now p.1.now) }
     ensures fault { IfErr result (UnlessMemory (FollowsFault end (Turn.After value) (frames.now ++ Frame.Member members name ∷ []) bytes.now)) }
 {
@@ -274,7 +270,6 @@ fn after_value<'a>(
     requires room { length frames.old ≤ 256 }
     requires utf8 { IsUtf8 bytes.now }
     ensures ok { IfOk result (IsOutcome end (Turn.After value) frames.old frames.new bytes.now) }
-    ensures err { IfErr result (Refuses (Stuck (Turn.After value) frames.old bytes.now)) }
     ensures fault { IfErr result (UnlessMemory (FollowsFault end (Turn.After value) frames.old bytes.now)) }
 {
     match frames.pop() {
@@ -307,7 +302,6 @@ fn turn_at<'a>(
     requires room { HasRoom turn frames.old }
     requires utf8 { IsUtf8 bytes.now }
     ensures ok { IfOk result (IsOutcome end turn frames.old frames.new bytes.now) }
-    ensures err { IfErr result (Refuses (Stuck turn frames.old bytes.now)) }
     ensures fault { IfErr result (UnlessMemory (FollowsFault end turn frames.old bytes.now)) }
 {
     match turn {
@@ -335,7 +329,6 @@ fn turn_at<'a>(
 fn read_front(alloc: Global, text: &[u8]) -> Result<Json, JsonFault>
     requires utf8 { IsUtf8 text.now }
     ensures ok { IfOk result (Reads text.now) }
-    ensures err { IfErr result (Refuses (Stuck Turn.Value [] text.now)) }
     ensures fault { IfErr result (UnlessMemory (TextFault (length text.now) text.now)) }
 {
     let mut frames = Stack::new(alloc);

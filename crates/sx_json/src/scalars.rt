@@ -1,6 +1,6 @@
 //! Reads a scalar: a string, a number or a literal name (RFC 8259 sections 3, 6 and 7).
 ghost use Rattle.std.specs.Prelude.{◌≡◌, ◌≢◌, ◌≤◌, ◌++◌, ◌∷◌, ◌↔◌, ℕ, List, IfErr, IfOk, IsTrue, IsUtf8, MatchOption, length};
-ghost use Rattle.sx_json.specs.Frames.{BeginsScalar, NoValue, ReadsScalar};
+ghost use Rattle.sx_json.specs.Frames.{BeginsScalar, ReadsScalar};
 ghost use Rattle.sx_json.specs.Grammar.{BeginsNumberAt, BeginsOther, IsBlank, IsSolid, Skips};
 ghost use Rattle.sx_json.specs.Reading.{Refuses, UnlessMemory};
 ghost use Rattle.sx_json.specs.Faults.{NumberFault, ScalarFault, WholeAt, WordFault};
@@ -54,7 +54,6 @@ pub(crate) fn scalar_at(
     requires begins { BeginsScalar bytes.now }
     requires utf8 { IsUtf8 bytes.now }
     ensures ok { IfOk result (λ p. ReadsScalar bytes.now p.0 p.1.now) }
-    ensures err { IfErr result (Refuses (NoValue bytes.now)) }
     ensures utf8 { IfOk result (λ p. IsUtf8 p.1.now) }
     ensures whole { IfOk result (λ p. (room : ℕ) → WholeAt (scalar p.0) room bytes.now p.1.now) }
     ensures fault { IfErr result (UnlessMemory (ScalarFault end bytes.now)) }
@@ -89,7 +88,6 @@ pub(crate) fn scalar_at(
 /// The rest behind the word at the front of the bytes.
 fn word_at<'a>(end: usize, bytes: &'a [u8], word: &[u8]) -> Result<&'a [u8], JsonFault>
     ensures ok { IfOk result (λ left. bytes.now ≡ word.now ++ left.now) }
-    ensures err { IfErr result (λ _. (left : List ℕ) → bytes.now ≡ word.now ++ left → ⊥) }
     ensures fault { IfErr result (WordFault end word.now bytes.now) }
 {
     let mut rest = bytes;
@@ -120,7 +118,6 @@ fn number_at(alloc: Global, end: usize, bytes: &[u8]) -> Result<(Scalar, &[u8]),
     requires begins { BeginsNumberAt bytes.now }
     requires utf8 { IsUtf8 bytes.now }
     ensures ok { IfOk result (λ p. ReadsScalar bytes.now p.0 p.1.now) }
-    ensures err { IfErr result (Refuses (NoValue bytes.now)) }
     ensures utf8 { IfOk result (λ p. IsUtf8 p.1.now) }
     ensures whole { IfOk result (λ p. (room : ℕ) → WholeAt (scalar p.0) room bytes.now p.1.now) }
     ensures fault { IfErr result (UnlessMemory (NumberFault end bytes.now)) }

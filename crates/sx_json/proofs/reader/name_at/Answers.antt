@@ -1,34 +1,20 @@
 use Rattle.std.proofs.Common.{Contains, inl, inr, refl, arith}
 use Rattle.sx_tree.specs.Names.{names_of}
-use Rattle.sx_tree.proofs.NameLists.{slice_get-Contains}
 use Rattle.sx_json.specs.FaultFrames.{FollowsFault}
 use Rattle.sx_json.specs.StringFaults.{QuotedFault}
 use Rattle.sx_json.specs.declared.reader.Turn.TheVariants as turn
 use Rattle.sx_json.proofs.FaultScalars.{skips_keep}
 use Rattle.sx_json.proofs.FaultSteps.{fresh_name, keeps_name, wrong_name}
 use Rattle.sx_json.proofs.StringTexts.{quoted_fault, utf8_behind}
-use Rattle.sx_json.proofs.Results.{refuses_all, unless_map}
-use Rattle.sx_json.proofs.Steps.{step_name, stuck_name, stuck_name_again, stuck_colon}
+use Rattle.sx_json.proofs.Results.{unless_map}
+use Rattle.sx_json.proofs.Steps.{step_name}
 use Rattle.sx_json.proofs.reader.name_at.Goals as goal
-
-pub returns-in-None-clause-err : goal.returns-in-None-clause-err
-returns-in-None-clause-err c = refuses_all _ c.unexpected.result (stuck_name c.args.frames.now c.args.bytes.now c.args.members c.in-None.ensures c.requires.solid)
-
-pub returns-clause-err : goal.returns-clause-err
-returns-clause-err c =
-    refuses_all _ c.unexpected-in-None-behind.result
-    (stuck_colon c.args.frames.now c.args.bytes.now c.in-Some.inside.now c.in-Ok.read.0 c.in-Ok.read.1.now c.skip_blanks-colon.result.now c.args.members c.in-Some.ensures c.in-Ok.ensures.ok c.skip_blanks-colon.ensures.skips c.skip_blanks-colon.ensures.solid c.in-None-behind.ensures)
 
 pub returns-in-Some-behind-clause-ok : goal.returns-in-Some-behind-clause-ok
 returns-in-Some-behind-clause-ok c =
     rw c.in_ok-push-in-Some-behind.ensures.ok
     (step_name c.args.frames.now c.args.bytes.now c.in-Some.inside.now c.in-Ok.read.0 c.in-Ok.read.1.now c.skip_blanks-colon.result.now c.in-Some-behind.rest.now c.args.members
     c.in-Some.ensures c.in-Ok.ensures.ok c.skip_blanks-colon.ensures.skips c.in-Some-behind.ensures)
-
-pub returns-then-has_name-clause-err : goal.returns-then-has_name-clause-err
-returns-then-has_name-clause-err c =
-    let there = slice_get-Contains (names_of c.args.members) c.in-Ok.read.0 (c.has_name.ensures.0 c.if-has_name.true) in
-    stuck_name_again c.args.frames.now c.args.bytes.now c.in-Some.inside.now c.in-Ok.read.0 c.in-Ok.read.1.now c.args.members there.0 c.in-Some.ensures c.in-Ok.ensures.ok there.1
 
 pub returns-in-None-clause-fault : goal.returns-in-None-clause-fault
 returns-in-None-clause-fault c =

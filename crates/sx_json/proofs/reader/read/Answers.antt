@@ -1,12 +1,10 @@
-use Rattle.std.proofs.Common.{◌≡◌, [], inl, length, IsUtf8}
+use Rattle.std.proofs.Common.{◌≡◌, inl, length, IsUtf8}
 use Rattle.sx_json.specs.Faults.{Faults, TextFault}
-use Rattle.sx_json.proofs.OneFault.{faults_one, only_fault}
-use Rattle.sx_tree.specs.Value.{Value, value_of}
-use Rattle.sx_json.specs.Frames.{Stuck}
+use Rattle.sx_json.proofs.OneFault.{fault_refused, faults_one, only_fault}
+use Rattle.sx_tree.specs.Value.{value_of}
 use Rattle.sx_json.specs.Grammar.{Spells}
 use Rattle.sx_json.specs.Outcome.{Reads}
-use Rattle.sx_json.specs.declared.reader.Turn.TheVariants as turn
-use Rattle.sx_json.proofs.Results.{if_ok_map, if_refuses_map, if_err_unless, unless_map}
+use Rattle.sx_json.proofs.Results.{if_ok_map, if_err_unless, unless_map}
 use Rattle.sx_json.proofs.Texts.{Spells-Follows, Follows-Spells}
 use Rattle.sx_json.proofs.reader.read.Goals as goal
 
@@ -16,7 +14,8 @@ returns-in-Ok-clause-only c = λ v s.
 
 pub returns-in-Ok-clause-refused : goal.returns-in-Ok-clause-refused
 returns-in-Ok-clause-refused c =
-    if_refuses_map (Stuck turn.Value [] c.args.text.now) ((v : Value) → Spells c.args.text.now v → ⊥) c.read_front.result (λ stuck v s. stuck v (Spells-Follows c.args.text.now v s)) c.read_front.ensures.err
+    let text = c.args.text.now in
+    fault_refused text c.read_front.result (if_err_unless (TextFault (length text) text) (Faults text) c.read_front.result (λ e k. inl (c.in-Ok.ensures.cases.1, k)) c.read_front.ensures.fault)
 
 pub returns-in-Ok-clause-no_other : goal.returns-in-Ok-clause-no_other
 returns-in-Ok-clause-no_other c = λ f h.

@@ -1,24 +1,9 @@
 use Rattle.std.proofs.Common.{IfErr, sym, subst}
 use Rattle.std.proofs.lemmas.Result.{err_from_is_err_and}
-use Rattle.sx_json.specs.Frames.{Steps, Stuck}
-use Rattle.sx_json.specs.Reading.{Refuses, UnlessMemory}
+use Rattle.sx_json.specs.Frames.{Steps}
+use Rattle.sx_json.specs.Reading.{UnlessMemory}
 use Rattle.sx_json.specs.FaultFrames.{FollowsFault, GoesOn}
 use Rattle.sx_json.proofs.reader.turn_at.Goals as goal
-
-pub returns-in_err-next-in-Value-clause-err : goal.returns-in_err-next-in-Value-clause-err
-returns-in_err-next-in-Value-clause-err c =
-    let p = err_from_is_err_and c.from_residual.result c.from_residual.ensures.1 in
-    rw (p.1, p.2) (subst (λ u. Refuses (Stuck u c.args.frames.now c.args.bytes.now) c.in_err-next-in-Value.field-0.0) (sym c.in-Value.is) c.in_err-next-in-Value.ensures.err)
-
-pub returns-in_err-next-in-FirstValue-clause-err : goal.returns-in_err-next-in-FirstValue-clause-err
-returns-in_err-next-in-FirstValue-clause-err c =
-    let p = err_from_is_err_and c.from_residual-in_err-next-in-FirstValue.result c.from_residual-in_err-next-in-FirstValue.ensures.1 in
-    rw (p.1, p.2, c.in_err-next-in-FirstValue.ensures.memory) tt
-
-pub returns-in_err-next-in-Name-clause-err : goal.returns-in_err-next-in-Name-clause-err
-returns-in_err-next-in-Name-clause-err c =
-    let p = err_from_is_err_and c.from_residual-in_err-next-in-Name.result c.from_residual-in_err-next-in-Name.ensures.1 in
-    rw (p.1, p.2) (subst (λ u. Refuses (Stuck u c.args.frames.now c.args.bytes.now) c.in_err-next-in-Name.field-0.0) (sym c.in-Name.is) c.in_err-next-in-Name.ensures.err)
 
 pub returns-in_ok-next-in-Value-clause-ok : goal.returns-in_ok-next-in-Value-clause-ok
 returns-in_ok-next-in-Value-clause-ok c =
@@ -51,10 +36,6 @@ returns-in_ok-next-in-Name-clause-ok c =
       subst (λ u. Steps u c.args.frames.now c.args.bytes.now ok.next c.name_at.new.frames ok.rest.now) (sym c.in-Name.is) ok.ensures.ok,
       subst (λ u. GoesOn c.args.end u c.args.frames.now c.args.bytes.now ok.next c.name_at.new.frames ok.rest.now) (sym c.in-Name.is) ok.ensures.keeps,
     )
-
-pub returns-in-After-clause-err : goal.returns-in-After-clause-err
-returns-in-After-clause-err c =
-    subst (λ u. IfErr c.after_value.result (Refuses (Stuck u c.args.frames.now c.args.bytes.now))) (sym c.in-After.is) c.after_value.ensures.err
 
 pub returns-in_err-next-in-Value-clause-fault : goal.returns-in_err-next-in-Value-clause-fault
 returns-in_err-next-in-Value-clause-fault c =
