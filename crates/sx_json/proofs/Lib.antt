@@ -4,6 +4,7 @@ pub mod StringShapes
 pub mod StringTexts
 pub mod Results
 pub mod OneStringFault
+pub mod Fronts
 pub mod Values
 pub mod Turns
 pub mod MemberTurns

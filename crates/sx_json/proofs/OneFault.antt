@@ -1,11 +1,8 @@
 -- A text has at most one fault, and none where it spells a value.
-use Rattle.std.proofs.Common.{Result, Ok, Err, IfOk, IfErr, MatchResult, cond, eqb, ltb, lt-ltb, le-ltb, ne_eqb, ◌≡◌, ◌&&◌, ℕ, zero, suc, ◌-◌, ◌≤◌, ◌<◌, ◌⊎◌, inl, inr, List, [], ◌∷◌, ◌++◌, refl, ap, sym, ◌∙◌, subst, arith, append_assoc, length, take, drop, get_or, codes, false, Contains}
+use Rattle.std.proofs.Common.{cond, eqb, ltb, lt-ltb, le-ltb, ne_eqb, ◌≡◌, ◌&&◌, ℕ, zero, suc, ◌-◌, ◌≤◌, ◌<◌, ◌⊎◌, inl, inr, List, [], ◌∷◌, ◌++◌, refl, ap, sym, ◌∙◌, subst, arith, append_assoc, length, take, drop, get_or, codes, false, Contains}
 use Rattle.std.proofs.lemmas.List.{get_or-take, length-take-le, take-take}
 use Rattle.std.proofs.lemmas.Str.{utf8_valid_len-IsValidUpTo}
 use Rattle.std.specs.Str.{IsValidUpTo}
-use Rattle.sx_tree.specs.declared.json.Json.{Json}
-use Rattle.sx_json.specs.Reading.{Refuses, UnlessMemory}
-use Rattle.sx_json.proofs.Results.{refuses_all, unless_map}
 use Rattle.std.proofs.lemmas.Bool.{cases_lt, cases_order}
 use Rattle.std.proofs.Math.Seq.{take-append_seam, drop-append_seam}
 use Rattle.sx_json.proofs.Skipping.{same_tail, word_differs}
@@ -13,7 +10,7 @@ use Rattle.std.proofs.lemmas.Option.{slice_get_within}
 use Rattle.sx_tree.specs.declared.json.Scalar.TheVariants.{Str, Number, Bool, Null}
 use Rattle.sx_tree.specs.Names.{AreDistinct}
 use Rattle.sx_tree.specs.Number.{IsDigit, IsNumber, IsLongestFront}
-use Rattle.sx_tree.specs.Value.{Value, scalar, array, object, Values, no_values, value_then, Fields, no_fields, field_then, value_of}
+use Rattle.sx_tree.specs.Value.{Value, scalar, array, object, Values, no_values, value_then, Fields, no_fields, field_then}
 use Rattle.sx_json.specs.Strings.{TextAt}
 use Rattle.sx_json.specs.Grammar.{IsBlank, AreBlanks, IsSolid, BeginsOther, Skips, Led, NameThen, ValueAt, ElementsAt, MoreElementsAt, MembersAt, MoreMembersAt, names_in, Spells}
 use Rattle.sx_json.specs.StringFaults.{unexpected, QuotedFault, QuoteFault, FrontFault, cut}
@@ -613,13 +610,3 @@ front_faults_one text f g (inr h) (inl k) = absurd (h.0 k.0)
 front_faults_one text f g (inr (none, n, x, at, h, is)) (inr (no_text, m, y, to, k, on)) =
     let same = valid_one text m n to at in
     is ∙ ap (cut n) (quote_fault_same n (take n text) x y h (subst (λ l. QuoteFault l (take l text) y) same k)) ∙ ap (λ l. cut l y) (sym same) ∙ sym on
-
--- So a reading that answers the text's fault answers no other, and one that answers a value has none to answer.
-pub only_fault : (text : List ℕ) (r : Result Json JsonFault) → IfOk r (λ json. Spells text (value_of json)) → IfErr r (UnlessMemory (Faults text)) → (f : JsonFault) → Faults text f → MatchResult r (λ _. ⊥) (UnlessMemory (λ e. e ≡ f))
-only_fault text (Ok json) spelled fault f h = spells_no_fault text (value_of json) f spelled h
-only_fault text (Err e) spelled fault f h = unless_map (Faults text) (λ g. g ≡ f) e (λ k. faults_one text e f k h) fault
-
-pub fault_refused : (text : List ℕ) (r : Result Json JsonFault) → IfErr r (UnlessMemory (Faults text)) → IfErr r (Refuses ((v : Value) → Spells text v → ⊥))
-fault_refused text (Ok json) h = tt
-fault_refused text (Err e) (inl is) = subst (Refuses ((v : Value) → Spells text v → ⊥)) (sym is) tt
-fault_refused text (Err e) (inr h) = refuses_all ((v : Value) → Spells text v → ⊥) e (λ v s. spells_no_fault text v e s h)

@@ -1,20 +1,15 @@
 -- A string has at most one fault, and none where it is whole.
 use Rattle.std.proofs.Common.{◌≡◌, ◌==◌, ℕ, zero, suc, ◌+◌, ◌-◌, ◌≤◌, ◌<◌, ◌⊎◌, inl, inr, List, [], ◌∷◌, ◌++◌, refl, ap, sym, ◌∙◌, subst, arith, length, encode_utf8, if◌then◌else◌}
-use Rattle.std.proofs.lemmas.List.{length-append}
+use Rattle.std.proofs.lemmas.List.{append-nil, length-append}
 use Rattle.std.proofs.lemmas.Str.{encode_ascii}
 use Rattle.std.proofs.Math.Utf8.{scalar_cases}
 use Rattle.std.specs.Char.{IsScalar}
-use Rattle.sx_json.specs.Strings.{IsShortEscape, DigitAt, UnitAt, LowAt, IsLowSurrogate, pair_char, StringAt, TextAt, closing, plain, short, unicode, pair}
+use Rattle.sx_json.specs.Strings.{IsShortEscape, DigitAt, UnitAt, LowAt, IsLowSurrogate, pair_char, IsText, StringAt, TextAt, closing, plain, short, unicode, pair}
 use Rattle.sx_json.specs.StringFaults.{UnicodeAt, EscapeAt, PieceAt, DigitsFault, LowEscapeFault, LowFault, UnicodeFault, EscapeFault, PieceFault, QuotedFault, QuoteFault, StringFault, in_piece, too_long, behind}
 use Rattle.sx_json.specs.declared.fault.JsonFault.{JsonFault}
-use Rattle.sx_json.proofs.Units.{DigitAt-same, UnitAt-digits, first_digit}
-use Rattle.sx_json.proofs.StringShapes.{heads, seconds, short_not_u}
-use Rattle.sx_json.proofs.StringTexts.{short_small}
-
-unit_same : (bytes : List ℕ) (u v : ℕ) (a b : List ℕ) → UnitAt bytes u a → UnitAt bytes v b → (u ≡ v) × (a ≡ b)
-unit_same bytes u v a b p q =
-    let reads = UnitAt-digits bytes (p.b ∷ p.c ∷ p.d ∷ a) (p.c ∷ p.d ∷ a) (p.d ∷ a) a p.x p.y p.z p.w (first_digit bytes u a p) (p.b, p.b_is, refl) (p.c, p.c_is, refl) (p.d, p.d_is, refl) in
-    let s = reads.1 v b q in (p.unit_is ∙ sym s.0, sym s.1)
+use Rattle.sx_json.specs.Reading.{ReadsText}
+use Rattle.sx_json.proofs.Units.{DigitAt-same, first_digit, unit_same}
+use Rattle.sx_json.proofs.StringShapes.{heads, seconds, short_small}
 
 digits_step : (end count : ℕ) (bytes left : List ℕ) (digit : ℕ) (f : JsonFault) → DigitAt bytes digit left → DigitsFault end (suc count) bytes f → DigitsFault end count left f
 digits_step end count bytes left digit f at (inl h) = absurd (h.0 digit left at)
@@ -46,6 +41,16 @@ short_is letter byte (inr (inr (inr (inr (inl e))))) = rw e.0 e.1
 short_is letter byte (inr (inr (inr (inr (inr (inl e)))))) = rw e.0 e.1
 short_is letter byte (inr (inr (inr (inr (inr (inr (inl e))))))) = rw e.0 e.1
 short_is letter byte (inr (inr (inr (inr (inr (inr (inr e))))))) = rw e.0 e.1
+
+short_not_u : (byte : ℕ) → IsShortEscape 117 byte → ⊥
+short_not_u byte (inl e) = omega (arith, e.0)
+short_not_u byte (inr (inl e)) = omega (arith, e.0)
+short_not_u byte (inr (inr (inl e))) = omega (arith, e.0)
+short_not_u byte (inr (inr (inr (inl e)))) = omega (arith, e.0)
+short_not_u byte (inr (inr (inr (inr (inl e))))) = omega (arith, e.0)
+short_not_u byte (inr (inr (inr (inr (inr (inl e)))))) = omega (arith, e.0)
+short_not_u byte (inr (inr (inr (inr (inr (inr (inl e))))))) = omega (arith, e.0)
+short_not_u byte (inr (inr (inr (inr (inr (inr (inr e))))))) = omega (arith, e.0)
 
 not_u : (letter byte : ℕ) → letter ≡ 117 → IsShortEscape letter byte → ⊥
 not_u letter byte is h = short_not_u byte (subst (λ l. IsShortEscape l byte) is h)
@@ -186,11 +191,11 @@ piece_fault_same end (byte ∷ bytes) f g (inr h) (inl k) = absurd (omega (arith
 piece_fault_same end (byte ∷ bytes) f g (inr h) (inr k) = escape_fault_same end (end - length (byte ∷ bytes)) bytes f g h.1 k.1
 
 -- a string, piece by piece
-data Chain : List ℕ → List ℕ → List ℕ → Type 0 where
+pub data Chain : List ℕ → List ℕ → List ℕ → Type 0 where
   ends : (bytes content left : List ℕ) → bytes ≡ 34 ∷ left → content ≡ [] → Chain bytes content left
   goes : (bytes content left x after more : List ℕ) → PieceAt bytes x after → Chain after more left → content ≡ x ++ more → Chain bytes content left
 
-chain_of : (bytes content left : List ℕ) → StringAt bytes content left → Chain bytes content left
+pub chain_of : (bytes content left : List ℕ) → StringAt bytes content left → Chain bytes content left
 chain_of bytes content left (closing l) = ends (34 ∷ l) [] l refl refl
 chain_of bytes content left (plain byte rest c l p s) = goes (byte ∷ rest) (byte ∷ c) l (byte ∷ []) rest c (inl (p, refl, refl)) (chain_of rest c l s) refl
 chain_of bytes content left (short letter byte rest c l p s) =
@@ -238,6 +243,11 @@ chain_not_fault end start count bytes c l f (goes b c' l' x a more p s is) (too_
 chain_not_fault end start count bytes c l f (goes b c' l' x a more p s is) (behind k b' y z g q small h) fits =
     let same = piece_same bytes x y a z p q in
     chain_not_fault end start (count + length y) a more l f s (subst (λ r. StringFault end start (count + length y) r f) (sym same.1) h) (omega (arith, fits, ap length same.0, ap length is, length-append x more))
+
+pub text_read : (bytes content left after text : List ℕ) → ((more l : List ℕ) → StringAt left more l → StringAt bytes (content ++ more) l) → left ≡ 34 ∷ after → text ≡ content → IsText content → ReadsText bytes text after
+text_read bytes content left after text leads is same good =
+    let whole : StringAt bytes text after = subst (λ t. StringAt bytes t after) (append-nil content ∙ sym same) (leads [] after (subst (λ l. StringAt l [] after) (sym is) (closing after))) in
+    ((whole, subst IsText (sym same) good), λ c l s. string_same bytes c text l after s.0 whole)
 
 -- A string that is whole within the limit has no fault.
 pub string_not_fault : (end start : ℕ) (bytes c l : List ℕ) (f : JsonFault) → TextAt bytes c l → StringFault end start 0 bytes f → ⊥

@@ -1,15 +1,14 @@
 -- A string in a text in UTF-8 stands for a text in UTF-8.
-use Rattle.std.proofs.Common.{tests, rules, ◌≡◌, ℕ, ◌+◌, ◌-◌, ◌≤◌, ◌<◌, inl, inr, List, [], ◌∷◌, ◌++◌, refl, ap, sym, ◌∙◌, subst, arith, append_assoc, length, take, drop, get_or, IsUtf8, encode_utf8}
-use Rattle.std.proofs.lemmas.List.{length-append, length-take-le, take-append-drop}
+use Rattle.std.proofs.Common.{tests, rules, ◌≡◌, ℕ, ◌+◌, ◌-◌, ◌≤◌, ◌<◌, inl, inr, List, [], ◌∷◌, ◌++◌, refl, ap, sym, ◌∙◌, subst, arith, append_assoc, length, take, get_or, IsUtf8, encode_utf8}
+use Rattle.std.proofs.lemmas.List.{length-append, length-take-le}
 use Rattle.std.proofs.Math.Seq.{take-append_seam, drop-append-add, get_or-append_seam}
 use Rattle.std.proofs.lemmas.Str.{IsUtf8-append, IsUtf8-take, IsUtf8-drop, IsUtf8-encode, IsCharBoundary-after_ascii}
 use Rattle.std.proofs.Math.Utf8.{low_scalar}
 use Rattle.std.specs.Char.{IsScalar}
 use Rattle.std.specs.Str.{IsValidUpTo}
-use Rattle.sx_json.specs.Strings.{IsShortEscape, IsHexDigit, UnitAt, IsHighSurrogate, IsLowSurrogate, pair_char}
-use Rattle.sx_json.specs.Front.{IsStringFront}
+use Rattle.sx_json.specs.Strings.{IsHexDigit, UnitAt, pair_char}
 use Rattle.sx_json.proofs.Results.{unless_map}
-use Rattle.sx_json.proofs.StringShapes.{string_extends}
+use Rattle.sx_json.proofs.StringShapes.{short_small}
 use Rattle.sx_json.specs.Reading.{UnlessMemory}
 use Rattle.sx_json.specs.StringFaults.{UnicodeAt, EscapeAt, PieceAt, StringFault, QuotedFault, QuoteFault, FrontFault, cut}
 use Rattle.sx_json.specs.declared.fault.JsonFault.{JsonFault}
@@ -28,7 +27,7 @@ tail_ascii b rest small u = (split_ascii [] rest b small u).1
 pub utf8_behind : (b : ℕ) (bytes rest : List ℕ) → b < 128 → bytes ≡ b ∷ rest → IsUtf8 bytes → IsUtf8 rest
 utf8_behind b bytes rest small is u = tail_ascii b rest small (subst IsUtf8 is u)
 
-hex_small : (byte digit : ℕ) → IsHexDigit byte digit → byte < 128
+pub hex_small : (byte digit : ℕ) → IsHexDigit byte digit → byte < 128
 hex_small byte digit (inl p) = omega (arith, p.1)
 hex_small byte digit (inr (inl p)) = omega (arith, p.1)
 hex_small byte digit (inr (inr p)) = omega (arith, p.1)
@@ -40,33 +39,26 @@ unit_keeps bytes unit after u t =
 scalar_above : (c : ℕ) → 0xE000 ≤ c → c ≤ 0x10FFFF → IsScalar c
 scalar_above c least most = search (tests, rules)
 
-unicode_keeps : (bytes : List ℕ) (character : ℕ) (after : List ℕ) → UnicodeAt bytes character after → IsUtf8 bytes → IsScalar character × IsUtf8 after
-unicode_keeps bytes character after (inl (unit, scalar)) t = (scalar, unit_keeps bytes character after unit t)
-unicode_keeps bytes character after (inr (high, middle, low, unit, is_high, at, is)) t = (
-  rw is (pair_scalar is_high at.3),
-  unit_keeps at.0 low after at.2 (tail_ascii 117 at.0 (omega arith) (tail_ascii 92 (117 ∷ at.0) (omega arith) (subst IsUtf8 at.1 (unit_keeps bytes high middle unit t)))),
-)
-  where
-    pair_scalar : IsHighSurrogate high → IsLowSurrogate low → IsScalar (pair_char high low)
-    pair_scalar h l =
-        let most : pair_char high low ≤ 0x10FFFF = omega (arith, h.0, h.1, l.0, l.1) in
-        let least : 0xE000 ≤ pair_char high low = omega (arith, h.0, h.1, l.0, l.1) in
-        scalar_above (pair_char high low) least most
+pub unicode_scalar : (bytes : List ℕ) (character : ℕ) (after : List ℕ) → UnicodeAt bytes character after → IsScalar character
+unicode_scalar bytes character after (inl (unit, scalar)) = scalar
+unicode_scalar bytes character after (inr (high, middle, low, unit, is_high, at, is)) =
+    let most : pair_char high low ≤ 0x10FFFF = omega (arith, is_high.0, is_high.1, at.3.0, at.3.1) in
+    let least : 0xE000 ≤ pair_char high low = omega (arith, is_high.0, is_high.1, at.3.0, at.3.1) in
+    rw is (scalar_above (pair_char high low) least most)
 
-pub short_small : (letter byte : ℕ) → IsShortEscape letter byte → (letter < 128) × (byte < 128)
-short_small letter byte (inl e) = (omega (arith, e.0), omega (arith, e.1))
-short_small letter byte (inr (inl e)) = (omega (arith, e.0), omega (arith, e.1))
-short_small letter byte (inr (inr (inl e))) = (omega (arith, e.0), omega (arith, e.1))
-short_small letter byte (inr (inr (inr (inl e)))) = (omega (arith, e.0), omega (arith, e.1))
-short_small letter byte (inr (inr (inr (inr (inl e))))) = (omega (arith, e.0), omega (arith, e.1))
-short_small letter byte (inr (inr (inr (inr (inr (inl e)))))) = (omega (arith, e.0), omega (arith, e.1))
-short_small letter byte (inr (inr (inr (inr (inr (inr (inl e))))))) = (omega (arith, e.0), omega (arith, e.1))
-short_small letter byte (inr (inr (inr (inr (inr (inr (inr e))))))) = (omega (arith, e.0), omega (arith, e.1))
+unicode_keeps : (bytes : List ℕ) (character : ℕ) (after : List ℕ) → UnicodeAt bytes character after → IsUtf8 bytes → IsUtf8 after
+unicode_keeps bytes character after (inl (unit, scalar)) t = unit_keeps bytes character after unit t
+unicode_keeps bytes character after (inr (high, middle, low, unit, is_high, at, is)) t =
+    unit_keeps at.0 low after at.2 (tail_ascii 117 at.0 (omega arith) (tail_ascii 92 (117 ∷ at.0) (omega arith) (subst IsUtf8 at.1 (unit_keeps bytes high middle unit t))))
 
-escape_keeps : (bytes : List ℕ) (character : ℕ) (after : List ℕ) → EscapeAt bytes character after → IsUtf8 bytes → IsScalar character × IsUtf8 after
+pub escape_scalar : (bytes : List ℕ) (character : ℕ) (after : List ℕ) → EscapeAt bytes character after → IsScalar character
+escape_scalar [] character after h = absurd h
+escape_scalar (letter ∷ bytes) character after (inl (short, same)) = low_scalar character (omega (arith, (short_small letter character short).1))
+escape_scalar (letter ∷ bytes) character after (inr (is, unicode)) = unicode_scalar bytes character after unicode
+
+escape_keeps : (bytes : List ℕ) (character : ℕ) (after : List ℕ) → EscapeAt bytes character after → IsUtf8 bytes → IsUtf8 after
 escape_keeps [] character after h t = absurd h
-escape_keeps (letter ∷ bytes) character after (inl (short, same)) t =
-    let small = short_small letter character short in (low_scalar character (omega (arith, small.1)), subst IsUtf8 same (tail_ascii letter bytes small.0 t))
+escape_keeps (letter ∷ bytes) character after (inl (short, same)) t = subst IsUtf8 same (tail_ascii letter bytes (short_small letter character short).0 t)
 escape_keeps (letter ∷ bytes) character after (inr (is, unicode)) t = unicode_keeps bytes character after unicode (tail_ascii letter bytes (omega (arith, is)) t)
 
 -- What a piece stands for takes its place.
@@ -77,7 +69,7 @@ piece_keeps content (byte ∷ bytes) begun after (inl (plain, is, same)) t =
 piece_keeps content (byte ∷ bytes) begun after (inr (is, character, escape, stands)) t =
     let parts = split_ascii content bytes byte (omega (arith, is)) t in
     let kept = escape_keeps bytes character after escape parts.1 in
-    rw stands (IsUtf8-append (content ++ encode_utf8 character) after (IsUtf8-append content (encode_utf8 character) parts.0 (IsUtf8-encode character kept.0)) kept.1)
+    rw stands (IsUtf8-append (content ++ encode_utf8 character) after (IsUtf8-append content (encode_utf8 character) parts.0 (IsUtf8-encode character (escape_scalar bytes character after escape))) kept)
 
 -- The place of the opening quote.
 pub from_quote : (end start place count : ℕ) (bytes : List ℕ) (f : JsonFault) → place ≡ end - length bytes → start ≡ place - 1 → StringFault end start count bytes f → StringFault end (end - length bytes - 1) count bytes f
@@ -88,16 +80,6 @@ pub quoted_fault : (end : ℕ) (bytes inside : List ℕ) (f : JsonFault) → byt
 quoted_fault end bytes inside f is h =
     let start : end - length inside - 1 ≡ end - length bytes = omega (arith, ap length is) in
     unless_map (StringFault end (end - length inside - 1) 0 inside) (QuotedFault end bytes) f (λ p. (inside, is, subst (λ s. StringFault end s 0 inside f) start p)) h
-
--- A string at the front of what is in UTF-8 stands at the front of the whole.
-pub front_extends : (text content : List ℕ) (used valid : ℕ) → IsStringFront (take valid text) content used → (u : ℕ) × IsStringFront text content u
-front_extends text content used valid h =
-    let more = drop valid text in
-    let whole : text ≡ 34 ∷ (h.0 ++ more) = sym (take-append-drop valid text) ∙ ap (λ l. l ++ more) h.2 in
-    let longer : length (take valid text) + length more ≡ length text = sym (length-append (take valid text) more) ∙ ap length (take-append-drop valid text) in (
-      used,
-      (h.0 ++ more, h.1 ++ more, whole, (string_extends more h.0 content h.1 h.3.0, h.3.1), omega (arith, h.4, longer, length-append h.1 more)),
-    )
 
 pub cut_known : (text : List ℕ) (valid : ℕ) (f : JsonFault) → (IsUtf8 text → ⊥) → IsValidUpTo text valid → UnlessMemory (QuoteFault (length (take valid text)) (take valid text)) f → UnlessMemory (FrontFault text) (cut valid f)
 cut_known text valid f none at (inl e) = inl (ap (cut valid) e)

@@ -1,6 +1,6 @@
 //! Reads a string at the front of a text.
-ghost use Rattle.std.specs.Prelude.{◌≡◌, ℕ, List, IfErr, IfOk, IsUtf8, length};
-ghost use Rattle.sx_json.specs.Front.{IsStringFront, NoStringFront, ReadsFront};
+ghost use Rattle.std.specs.Prelude.{◌≡◌, ℕ, List, IfErr, IfOk, IsUtf8, MatchResult, length};
+ghost use Rattle.sx_json.specs.Front.{IsStringFront, NoStringFront};
 ghost use Rattle.std.specs.Str.{IsValidUpTo};
 ghost use Rattle.sx_json.specs.Reading.{Refuses, UnlessMemory};
 ghost use Rattle.sx_json.specs.StringFaults.{FrontFault, QuoteFault};
@@ -12,11 +12,11 @@ use std::alloc::Global;
 use std::str;
 use sx_tree::text::Text;
 
-/// The string at the front of the bytes, and how many bytes it takes.
+/// The string at the front of bytes in UTF-8, and how many bytes it takes.
 fn string_front(alloc: Global, text: &[u8]) -> Result<(Text, usize), JsonFault>
-    ensures ok { IfOk result (λ p. ReadsFront text.now p.0 p.1) }
-    ensures err { IfErr result (Refuses (NoStringFront text.now)) }
-    ensures fault { IsUtf8 text.now → IfErr result (UnlessMemory (QuoteFault (length text.now) text.now)) }
+    requires { IsUtf8 text.now }
+    ensures ok { IfOk result (λ p. IsStringFront text.now p.0 p.1) }
+    ensures fault { IfErr result (UnlessMemory (QuoteFault (length text.now) text.now)) }
 {
     let inside = match behind(text, b'"') {
         Some(inside) => inside,
@@ -28,42 +28,27 @@ fn string_front(alloc: Global, text: &[u8]) -> Result<(Text, usize), JsonFault>
     }
 }
 
-/// The fault of bytes that are not in UTF-8, at whose front no string stands. They come before a fault
-/// behind them.
-fn cut_fault(alloc: Global, text: &[u8], valid: usize) -> JsonFault
-    requires none { NoStringFront text.now }
+/// The string at the front of bytes that are in UTF-8 up to this place and not there.
+fn string_before(alloc: Global, text: &[u8], valid: usize) -> Result<(Text, usize), JsonFault>
     requires utf8 { IsUtf8 text.now → ⊥ }
     requires valid { IsValidUpTo text.now valid }
-    ensures { UnlessMemory (FrontFault text.now) result }
+    ensures ok { IfOk result (λ p. IsStringFront text.now p.0 p.1) }
+    ensures fault { IfErr result (UnlessMemory (FrontFault text.now)) }
 {
     match string_front(alloc, &text[..valid]) {
-        Err(fault) => at_cut(fault, valid),
-        Ok(_) => JsonFault::BadByte { at: valid as u64 },
+        Ok(found) => Ok(found),
+        Err(fault) => Err(at_cut(fault, valid)),
     }
 }
 
-/// The fault of bytes at whose front a string was read with this fault.
-fn front_fault(alloc: Global, text: &[u8], fault: JsonFault) -> JsonFault
-    requires none { NoStringFront text.now }
-    requires known { IsUtf8 text.now → UnlessMemory (QuoteFault (length text.now) text.now) fault }
-    ensures { UnlessMemory (FrontFault text.now) result }
+/// The string at the front of any bytes.
+fn any_front(alloc: Global, text: &[u8]) -> Result<(Text, usize), JsonFault>
+    ensures ok { IfOk result (λ p. IsStringFront text.now p.0 p.1) }
+    ensures fault { IfErr result (UnlessMemory (FrontFault text.now)) }
 {
     match str::from_utf8(text) {
-        Ok(_) => fault,
-        Err(error) => cut_fault(alloc, text, error.valid_up_to()),
-    }
-}
-
-/// The fault where a string was read with this one.
-fn fault_of(alloc: Global, text: &[u8], fault: JsonFault) -> JsonFault
-    requires none { Refuses (NoStringFront text.now) fault }
-    requires known { IsUtf8 text.now → UnlessMemory (QuoteFault (length text.now) text.now) fault }
-    ensures none { Refuses (NoStringFront text.now) result }
-    ensures fault { UnlessMemory (FrontFault text.now) result }
-{
-    match fault {
-        JsonFault::OutOfMemory => JsonFault::OutOfMemory,
-        _ => front_fault(alloc, text, fault),
+        Ok(_) => string_front(alloc, text),
+        Err(error) => string_before(alloc, text, error.valid_up_to()),
     }
 }
 
@@ -82,11 +67,8 @@ pub fn read_string(alloc: Global, text: &[u8]) -> Result<(Text, usize), JsonFaul
     ensures refused { IfErr result (Refuses (NoStringFront text.now)) }
     // It is the fault that is known at the least byte.
     ensures fault { IfErr result (UnlessMemory (FrontFault text.now)) }
-    // It is the only one.
-    ensures no_other { (f : JsonFault) → FrontFault text.now f → IfErr result (UnlessMemory (λ e. e ≡ f)) }
+    // A text with a fault is refused with it, and with no other.
+    ensures no_other { (f : JsonFault) → FrontFault text.now f → MatchResult result (λ _. ⊥) (UnlessMemory (λ e. e ≡ f)) }
 {
-    match string_front(alloc, text) {
-        Ok(found) => Ok(found),
-        Err(fault) => Err(fault_of(alloc, text, fault)),
-    }
+    any_front(alloc, text)
 }

@@ -1,10 +1,10 @@
 use Rattle.std.proofs.Common.{◌≡◌, inl, length, IsUtf8}
 use Rattle.sx_json.specs.Faults.{Faults, TextFault}
-use Rattle.sx_json.proofs.OneFault.{fault_refused, faults_one, only_fault}
-use Rattle.sx_tree.specs.Value.{value_of}
+use Rattle.sx_json.proofs.OneFault.{faults_one, spells_no_fault}
+use Rattle.sx_tree.specs.Value.{Value, value_of}
 use Rattle.sx_json.specs.Grammar.{Spells}
 use Rattle.sx_json.specs.Outcome.{Reads}
-use Rattle.sx_json.proofs.Results.{if_ok_map, if_err_unless, unless_map}
+use Rattle.sx_json.proofs.Results.{if_ok_map, no_other, refused_by, unless_map}
 use Rattle.sx_json.proofs.Texts.{Spells-Follows, Follows-Spells}
 use Rattle.sx_json.proofs.reader.read.Goals as goal
 
@@ -15,14 +15,13 @@ returns-in-Ok-clause-only c = λ v s.
 pub returns-in-Ok-clause-refused : goal.returns-in-Ok-clause-refused
 returns-in-Ok-clause-refused c =
     let text = c.args.text.now in
-    fault_refused text c.read_front.result (if_err_unless (TextFault (length text) text) (Faults text) c.read_front.result (λ e k. inl (c.in-Ok.ensures.cases.1, k)) c.read_front.ensures.fault)
+    refused_by (TextFault (length text) text) ((v : Value) → Spells text v → ⊥) c.read_front.result (λ f h v s. spells_no_fault text v f s (inl (c.in-Ok.ensures.cases.1, h))) c.read_front.ensures.fault
 
 pub returns-in-Ok-clause-no_other : goal.returns-in-Ok-clause-no_other
 returns-in-Ok-clause-no_other c = λ f h.
     let text = c.args.text.now in
     let utf8 : IsUtf8 text = c.in-Ok.ensures.cases.1 in
-    let spelled = if_ok_map (Reads text) (λ json. Spells text (value_of json)) c.read_front.result c.read_front.ensures.ok (λ x r. Follows-Spells text (value_of x) utf8 r.0) in
-    only_fault text c.read_front.result spelled (if_err_unless (TextFault (length text) text) (Faults text) c.read_front.result (λ e k. inl (utf8, k)) c.read_front.ensures.fault) f h
+    no_other (Reads text) (TextFault (length text) text) c.read_front.result f (λ x r. spells_no_fault text (value_of x) f (Follows-Spells text (value_of x) utf8 r.0) h) (λ g k. faults_one text g f (inl (utf8, k)) h) c.read_front.ensures.ok c.read_front.ensures.fault
 
 pub returns-in-Err-clause-no_other : goal.returns-in-Err-clause-no_other
 returns-in-Err-clause-no_other c = λ f h.

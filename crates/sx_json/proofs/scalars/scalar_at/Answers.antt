@@ -24,14 +24,12 @@ pub returns-in_err-text-in-34-clause-fault : goal.returns-in_err-text-in-34-clau
 returns-in_err-text-in-34-clause-fault c =
     let p = err_from_is_err_and c.from_residual.result c.from_residual.ensures.1 in
     let is : c.args.bytes.now ≡ 34 ∷ c.in-Some.inside.now = c.in-Some.ensures.cases.0 ∙ ap (λ b. b ∷ c.in-Some.inside.now) c.in-34.is in
-    let inside = tail_ascii 34 c.in-Some.inside.now (omega arith) (subst IsUtf8 is c.requires.utf8) in
     rw (p.1, p.2)
-    (unless_map (QuotedFault c.args.end c.args.bytes.now) (ScalarFault c.args.end c.args.bytes.now) _ (λ h. inr (inl h)) (quoted_fault c.args.end c.args.bytes.now c.in-Some.inside.now _ is (c.in_err-text-in-34.ensures.fault inside)))
+    (unless_map (QuotedFault c.args.end c.args.bytes.now) (ScalarFault c.args.end c.args.bytes.now) _ (λ h. inr (inl h)) (quoted_fault c.args.end c.args.bytes.now c.in-Some.inside.now _ is c.in_err-text-in-34.ensures.fault))
 
-pub returns-in_ok-text-in-34-clause-utf8 : goal.returns-in_ok-text-in-34-clause-utf8
-returns-in_ok-text-in-34-clause-utf8 c =
-    let is : c.args.bytes.now ≡ 34 ∷ c.in-Some.inside.now = c.in-Some.ensures.cases.0 ∙ ap (λ b. b ∷ c.in-Some.inside.now) c.in-34.is in
-    c.in_ok-text-in-34.ensures.utf8 (tail_ascii 34 c.in-Some.inside.now (omega arith) (subst IsUtf8 is c.requires.utf8))
+pub string_at-requires : goal.string_at-requires
+string_at-requires c =
+    let is : c.args.bytes.now ≡ 34 ∷ c.in-Some.inside.now = c.in-Some.ensures.cases.0 ∙ ap (λ b. b ∷ c.in-Some.inside.now) c.in-34.is in tail_ascii 34 c.in-Some.inside.now (omega arith) (subst IsUtf8 is c.requires.utf8)
 
 pub returns-in_ok-left-in-116-clause-utf8 : goal.returns-in_ok-left-in-116-clause-utf8
 returns-in_ok-left-in-116-clause-utf8 c = true_keeps c.in_ok-left-in-116.left.now (subst IsUtf8 c.in_ok-left-in-116.ensures.ok c.requires.utf8)
