@@ -12,11 +12,10 @@ use std::alloc::Global;
 use std::str;
 use sx_tree::text::Text;
 
-/// The string at the front of bytes in UTF-8, and how many bytes it takes.
+/// The string at the front of the bytes, and how many bytes it takes.
 fn string_front(alloc: Global, text: &[u8]) -> Result<(Text, usize), JsonFault>
-    requires { IsUtf8 text.now }
     ensures ok { IfOk result (λ p. IsStringFront text.now p.0 p.1) }
-    ensures fault { IfErr result (UnlessMemory (QuoteFault (length text.now) text.now)) }
+    ensures fault { IsUtf8 text.now → IfErr result (UnlessMemory (QuoteFault (length text.now) text.now)) }
 {
     let inside = match behind(text, b'"') {
         Some(inside) => inside,
@@ -41,14 +40,26 @@ fn string_before(alloc: Global, text: &[u8], valid: usize) -> Result<(Text, usiz
     }
 }
 
-/// The string at the front of any bytes.
-fn any_front(alloc: Global, text: &[u8]) -> Result<(Text, usize), JsonFault>
+/// Reads a string again where this fault came, up to the first bytes that are not in UTF-8.
+fn string_again(alloc: Global, text: &[u8], fault: JsonFault) -> Result<(Text, usize), JsonFault>
+    requires { IsUtf8 text.now → UnlessMemory (QuoteFault (length text.now) text.now) fault }
     ensures ok { IfOk result (λ p. IsStringFront text.now p.0 p.1) }
     ensures fault { IfErr result (UnlessMemory (FrontFault text.now)) }
 {
     match str::from_utf8(text) {
-        Ok(_) => string_front(alloc, text),
+        Ok(_) => Err(fault),
         Err(error) => string_before(alloc, text, error.valid_up_to()),
+    }
+}
+
+/// The string at the front of any bytes. Those behind it are not looked at.
+fn any_front(alloc: Global, text: &[u8]) -> Result<(Text, usize), JsonFault>
+    ensures ok { IfOk result (λ p. IsStringFront text.now p.0 p.1) }
+    ensures fault { IfErr result (UnlessMemory (FrontFault text.now)) }
+{
+    match string_front(alloc, text) {
+        Ok(found) => Ok(found),
+        Err(fault) => string_again(alloc, text, fault),
     }
 }
 

@@ -253,11 +253,10 @@ fn text_of(alloc: Global, start: u64, content: &Bytes) -> Result<Text, JsonFault
 
 /// The string behind its opening quote, and the rest.
 pub(crate) fn string_at(alloc: Global, end: usize, bytes: &[u8]) -> Result<(Text, &[u8]), JsonFault>
-    requires { IsUtf8 bytes.now }
     ensures shorter { IfOk result (λ p. length p.1.now < length bytes.now) }
     ensures ok { IfOk result (λ p. ReadsText bytes.now p.0 p.1.now) }
-    ensures utf8 { IfOk result (λ p. IsUtf8 p.1.now) }
-    ensures fault { IfErr result (UnlessMemory (StringFault end (end - length bytes.now - 1) 0 bytes.now)) }
+    ensures utf8 { IsUtf8 bytes.now → IfOk result (λ p. IsUtf8 p.1.now) }
+    ensures fault { IsUtf8 bytes.now → IfErr result (UnlessMemory (StringFault end (end - length bytes.now - 1) 0 bytes.now)) }
 {
     let start = place(end, bytes).saturating_sub(1);
     let mut content = Bytes::new(alloc);

@@ -24,7 +24,7 @@ pub returns-in-Err-clause-fault : goal.returns-in-Err-clause-fault
 returns-in-Err-clause-fault c =
     unless_map (QuotedFault c.args.end c.args.bytes.now) (FollowsFault c.args.end (turn.Name c.args.members) c.args.frames.now c.args.bytes.now) c.in-Err.fault
     (λ h. wrong_name c.args.end c.args.frames.now c.args.bytes.now c.args.members c.in-Err.fault c.requires.solid c.requires.room (inl (inr h)))
-    (quoted_fault c.args.end c.args.bytes.now c.in-Some.inside.now c.in-Err.fault c.in-Some.ensures c.in-Err.ensures.fault)
+    (quoted_fault c.args.end c.args.bytes.now c.in-Some.inside.now c.in-Err.fault c.in-Some.ensures (c.in-Err.ensures.fault (utf8_behind 34 c.args.bytes.now c.in-Some.inside.now (omega arith) c.in-Some.ensures c.requires.utf8)))
 
 pub returns-then-has_name-clause-fault : goal.returns-then-has_name-clause-fault
 returns-then-has_name-clause-fault c =
@@ -36,7 +36,7 @@ returns-then-has_name-clause-fault c =
 
 pub returns-in-Some-behind-clause-keeps : goal.returns-in-Some-behind-clause-keeps
 returns-in-Some-behind-clause-keeps c =
-    let colon = skips_keep c.in-Ok.read.1.now c.skip_blanks-colon.result.now c.skip_blanks-colon.ensures.skips c.in-Ok.ensures.utf8 in
+    let colon = skips_keep c.in-Ok.read.1.now c.skip_blanks-colon.result.now c.skip_blanks-colon.ensures.skips (c.in-Ok.ensures.utf8 (utf8_behind 34 c.args.bytes.now c.in-Some.inside.now (omega arith) c.in-Some.ensures c.requires.utf8)) in
     let fresh : Contains (names_of c.args.members) c.in-Ok.read.0 → ⊥ = fresh_name _ _ _ c.has_name.ensures c.if-has_name.false in
     rw c.in_ok-push-in-Some-behind.ensures.ok (
       utf8_behind 58 c.skip_blanks-colon.result.now c.in-Some-behind.rest.now (omega arith) c.in-Some-behind.ensures colon,
@@ -51,6 +51,3 @@ returns-clause-fault c =
     rw c.unexpected-in-None-behind.ensures
     (inr (wrong_name c.args.end c.args.frames.now c.args.bytes.now c.args.members _ c.requires.solid c.requires.room
     (inr (name, c.in-Some.inside.now, c.in-Ok.read.1.now, c.in-Some.ensures, c.in-Ok.ensures.ok.0, inr (fresh, (c.skip_blanks-colon.result.now, c.skip_blanks-colon.ensures.skips, c.skip_blanks-colon.ensures.solid, (c.in-None-behind.ensures, refl)))))))
-
-pub string_at-requires : goal.string_at-requires
-string_at-requires c = utf8_behind 34 c.args.bytes.now c.in-Some.inside.now (omega arith) c.in-Some.ensures c.requires.utf8

@@ -2,7 +2,7 @@ use Rattle.std.proofs.Common.{◌≡◌, ◌∙◌, ◌∷◌, ap, subst, inl, i
 use Rattle.sx_json.specs.Faults.{ScalarFault}
 use Rattle.sx_json.specs.StringFaults.{QuotedFault}
 use Rattle.sx_json.proofs.FaultScalars.{true_keeps, false_keeps, null_keeps}
-use Rattle.sx_json.proofs.StringTexts.{quoted_fault, tail_ascii}
+use Rattle.sx_json.proofs.StringTexts.{quoted_fault, utf8_behind}
 use Rattle.std.proofs.lemmas.Result.{err_from_is_err_and}
 use Rattle.sx_json.proofs.Results.{unless_map}
 use Rattle.sx_json.proofs.ScalarReads.{string_reads, true_reads, false_reads, null_reads}
@@ -25,11 +25,12 @@ returns-in_err-text-in-34-clause-fault c =
     let p = err_from_is_err_and c.from_residual.result c.from_residual.ensures.1 in
     let is : c.args.bytes.now ≡ 34 ∷ c.in-Some.inside.now = c.in-Some.ensures.cases.0 ∙ ap (λ b. b ∷ c.in-Some.inside.now) c.in-34.is in
     rw (p.1, p.2)
-    (unless_map (QuotedFault c.args.end c.args.bytes.now) (ScalarFault c.args.end c.args.bytes.now) _ (λ h. inr (inl h)) (quoted_fault c.args.end c.args.bytes.now c.in-Some.inside.now _ is c.in_err-text-in-34.ensures.fault))
+    (unless_map (QuotedFault c.args.end c.args.bytes.now) (ScalarFault c.args.end c.args.bytes.now) _ (λ h. inr (inl h)) (quoted_fault c.args.end c.args.bytes.now c.in-Some.inside.now _ is (c.in_err-text-in-34.ensures.fault (utf8_behind 34 c.args.bytes.now c.in-Some.inside.now (omega arith) is c.requires.utf8))))
 
-pub string_at-requires : goal.string_at-requires
-string_at-requires c =
-    let is : c.args.bytes.now ≡ 34 ∷ c.in-Some.inside.now = c.in-Some.ensures.cases.0 ∙ ap (λ b. b ∷ c.in-Some.inside.now) c.in-34.is in tail_ascii 34 c.in-Some.inside.now (omega arith) (subst IsUtf8 is c.requires.utf8)
+pub returns-in_ok-text-in-34-clause-utf8 : goal.returns-in_ok-text-in-34-clause-utf8
+returns-in_ok-text-in-34-clause-utf8 c =
+    let is : c.args.bytes.now ≡ 34 ∷ c.in-Some.inside.now = c.in-Some.ensures.cases.0 ∙ ap (λ b. b ∷ c.in-Some.inside.now) c.in-34.is in
+    c.in_ok-text-in-34.ensures.utf8 (utf8_behind 34 c.args.bytes.now c.in-Some.inside.now (omega arith) is c.requires.utf8)
 
 pub returns-in_ok-left-in-116-clause-utf8 : goal.returns-in_ok-left-in-116-clause-utf8
 returns-in_ok-left-in-116-clause-utf8 c = true_keeps c.in_ok-left-in-116.left.now (subst IsUtf8 c.in_ok-left-in-116.ensures.ok c.requires.utf8)

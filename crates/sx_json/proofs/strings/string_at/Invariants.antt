@@ -9,7 +9,7 @@ invariant-loop-content l = record {
   leads : (more left : List ℕ) → StringAt l.left more left → StringAt l.bytes (l.content ++ more) left;
   no_longer : length l.left ≤ length l.bytes;
   short : length l.content ≤ 1_048_576;
-  utf8 : IsUtf8 (l.content ++ l.left);
+  utf8 : IsUtf8 l.bytes → IsUtf8 (l.content ++ l.left);
   fault : (f : JsonFault) → StringFault l.end l.start (length l.content) l.left f → StringFault l.end l.start 0 l.bytes f;
 }
 
