@@ -13,7 +13,7 @@ use Rattle.sx_json.proofs.Values.{blank_small, Led-blank, no_value_from, blank_n
 solid_byte : (byte wanted : ℕ) (rest left : List ℕ) → IsBlank byte → 33 ≤ wanted → byte ∷ rest ≡ wanted ∷ left → ⊥
 solid_byte byte wanted rest left blank above e = omega (arith, blank_small byte blank, (heads byte wanted rest left e).0, above)
 
-value_solid : (x : Value) (room byte : ℕ) (rest left : List ℕ) → IsBlank byte → ValueAt x room (byte ∷ rest) left → ⊥
+pub value_solid : (x : Value) (room byte : ℕ) (rest left : List ℕ) → IsBlank byte → ValueAt x room (byte ∷ rest) left → ⊥
 value_solid x room byte rest left blank h = no_value_from x room byte rest left (blank_not_first byte blank) h
 
 elements : (vs : Values) (room byte : ℕ) (rest left : List ℕ) → IsBlank byte → ElementsAt vs room (byte ∷ rest) left → ElementsAt vs room rest left

@@ -1,11 +1,10 @@
 -- How a text goes on in an object, token by token.
 use Rattle.std.proofs.Common.{◌≡◌, ◌≢◌, ℕ, zero, suc, inl, inr, List, [], ◌∷◌, ◌++◌, refl, ap, sym, ◌∙◌, subst, arith, length, Some, slice_get}
-use Rattle.std.proofs.lemmas.Option.{slice_get_within}
 use Rattle.sx_tree.specs.declared.json.Json.{Json}
 use Rattle.sx_tree.specs.Names.{AreDistinct, names_of}
 use Rattle.sx_tree.specs.Value.{Value, object, Fields, no_fields, field_then, value_of, fields_of}
 use Rattle.sx_json.specs.Strings.{TextAt}
-use Rattle.sx_json.specs.Reading.{ReadsText, NoText}
+use Rattle.sx_json.specs.Reading.{ReadsText}
 use Rattle.sx_json.specs.Grammar.{IsBlank, AreBlanks, Led, NameThen, ValueAt, MembersAt, MoreMembersAt, names_in}
 use Rattle.sx_json.specs.Frames.{Close, Awaits, AwaitsMembers, AwaitsName, append_fields}
 use Rattle.sx_json.specs.declared.reader.Frame.{Frame}
@@ -116,23 +115,6 @@ object_closes frames room members name x v rest distinct = (
         let p = Led-here (λ b. (behind : List ℕ) × (b ≡ 44 ∷ behind) × Led (NameThen other (Behind y room more left)) behind) 125 rest (omega arith) h in
         absurd (omega (arith, (heads 125 44 rest p.0 p.1).0))
 
-pub no_member : (frames : List Frame) (room : ℕ) (members : List (List ℕ × Json)) (name : List ℕ) (x v : Value) (byte : ℕ) (rest : List ℕ) → (IsBlank byte → ⊥) → byte ≢ 44 → byte ≢ 125 → Close (Member members name ∷ frames) room x v (byte ∷ rest) → ⊥
-no_member frames room members name x v byte rest solid comma brace h = by_fields h.0 h.1 h.2
-  where
-    by_fields : (more : Fields) (left : List ℕ) → MoreMembersAt more room (byte ∷ rest) left → ⊥
-    by_fields no_fields left m =
-        let e = Led-solid (λ b. b ≡ 125 ∷ left) byte rest solid m in brace (heads byte 125 rest left e).0
-    by_fields (field_then other y more) left m =
-        let p = Led-solid (λ b. (behind : List ℕ) × (b ≡ 44 ∷ behind) × Led (NameThen other (Behind y room more left)) behind) byte rest solid m in
-        comma (heads byte 44 rest p.0 p.1).0
-
-pub object_open_at_end : (frames : List Frame) (room : ℕ) (members : List (List ℕ × Json)) (name : List ℕ) (x v : Value) → Close (Member members name ∷ frames) room x v [] → ⊥
-object_open_at_end frames room members name x v h = by_fields h.0 h.1 h.2
-  where
-    by_fields : (more : Fields) (left : List ℕ) → MoreMembersAt more room [] left → ⊥
-    by_fields no_fields left m = nothing_there 125 left m
-    by_fields (field_then other y more) left m = nothing_there 44 m.0 m.1
-
 pub Led-blanks-from : (P : List ℕ → Type 0) (blanks rest : List ℕ) → AreBlanks blanks → Led P rest → Led P (blanks ++ rest)
 Led-blanks-from P [] rest all p = p
 Led-blanks-from P (b ∷ bs) rest all p = inr (all.0, Led-blanks-from P bs rest all.1 p)
@@ -182,67 +164,14 @@ name_read frames room members v inside name after blanks rest reads all is = (to
         let led = Led-blanks-from (Colon (Behind h.0 room more left)) blanks (58 ∷ rest) all (inl (rest, refl, behind)) in
         (name, h.0, more, left, inl (inside, after, refl, reads.0, subst (λ a. Led (Colon (Behind h.0 room more left)) a) (sym is) led), h.3.3, h.3.4)
 
--- Where no colon stands behind the name.
-pub no_colon : (frames : List Frame) (room : ℕ) (members : List (List ℕ × Json)) (v : Value) (inside name after blanks rest : List ℕ) → ReadsText inside name after → AreBlanks blanks → after ≡ blanks ++ rest
-    → ((b : ℕ) (r : List ℕ) → rest ≡ b ∷ r → (IsBlank b → ⊥) × (b ≢ 58)) → AwaitsName (fields_of members) frames room v (34 ∷ inside) → ⊥
-no_colon frames room members v inside name after blanks rest reads all is other h =
-    let n = Led-here (NameThen h.0 (Behind h.1 room h.2 h.3)) 34 inside (omega arith) h.4 in
-    let text = subst (λ i. TextAt i h.0 n.1) (sym (heads 34 34 inside n.0 n.2).1) n.3 in
-    let same = reads.1 h.0 n.1 text in
-    let led = subst (λ a. Led (Colon (Behind h.1 room h.2 h.3)) a) (same.1 ∙ is) n.4 in
-    by_rest rest other (Led-blanks-to (Colon (Behind h.1 room h.2 h.3)) blanks rest (colon_solid (Behind h.1 room h.2 h.3)) all led)
-  where
-    by_rest : (bytes : List ℕ) → ((b : ℕ) (r : List ℕ) → bytes ≡ b ∷ r → (IsBlank b → ⊥) × (b ≢ 58)) → Led (Colon (Behind h.1 room h.2 h.3)) bytes → ⊥
-    by_rest [] none c = nothing_there 58 c.0 c.1
-    by_rest (b ∷ r) none (inl c) = (none b r refl).1 (heads b 58 r c.0 c.1).0
-    by_rest (b ∷ r) none (inr c) = (none b r refl).0 c.0
-
--- Where no name begins.
-pub no_name : (fs : Fields) (frames : List Frame) (room : ℕ) (v : Value) (byte : ℕ) (rest : List ℕ) → (IsBlank byte → ⊥) → byte ≢ 34 → AwaitsName fs frames room v (byte ∷ rest) → ⊥
-no_name fs frames room v byte rest solid other h =
-    let n = Led-solid (NameThen h.0 (Behind h.1 room h.2 h.3)) byte rest solid h.4 in other (heads byte 34 rest n.0 n.2).0
-
 pub no_name_at_end : (fs : Fields) (frames : List Frame) (room : ℕ) (v : Value) → AwaitsName fs frames room v [] → ⊥
 no_name_at_end fs frames room v h = nothing_there 34 h.4.0 h.4.2
 
-pub no_name_text : (fs : Fields) (frames : List Frame) (room : ℕ) (v : Value) (inside : List ℕ) → NoText inside → AwaitsName fs frames room v (34 ∷ inside) → ⊥
-no_name_text fs frames room v inside none h =
-    let n = Led-here (NameThen h.0 (Behind h.1 room h.2 h.3)) 34 inside (omega arith) h.4 in
-    none h.0 n.1 (subst (λ i. TextAt i h.0 n.1) (sym (heads 34 34 inside n.0 n.2).1) n.3)
-
-names_in-append : (fs more : Fields) → names_in (append_fields fs more) ≡ names_in fs ++ names_in more
-names_in-append no_fields more = refl
-names_in-append (field_then name v fs) more = ap (λ l. name ∷ l) (names_in-append fs more)
-
-slice_get_left : (xs ys : List (List ℕ)) (i : ℕ) (x : List ℕ) → slice_get xs i ≡ Some x → slice_get (xs ++ ys) i ≡ Some x
+pub slice_get_left : (xs ys : List (List ℕ)) (i : ℕ) (x : List ℕ) → slice_get xs i ≡ Some x → slice_get (xs ++ ys) i ≡ Some x
 slice_get_left [] ys i x e = absurd (cc)
 slice_get_left (y ∷ xs) ys zero x e = e
 slice_get_left (y ∷ xs) ys (suc i) x e = slice_get_left xs ys i x e
 
-slice_get_seam : (xs ys : List (List ℕ)) (x : List ℕ) → slice_get (xs ++ x ∷ ys) (length xs) ≡ Some x
+pub slice_get_seam : (xs ys : List (List ℕ)) (x : List ℕ) → slice_get (xs ++ x ∷ ys) (length xs) ≡ Some x
 slice_get_seam [] ys x = refl
 slice_get_seam (y ∷ xs) ys x = slice_get_seam xs ys x
-
--- A name that the object has.
-pub name_again : (frames : List Frame) (room : ℕ) (members : List (List ℕ × Json)) (v : Value) (inside name after : List ℕ) (place : ℕ) → ReadsText inside name after → slice_get (names_of members) place ≡ Some name
-    → AwaitsName (fields_of members) frames room v (34 ∷ inside) → ⊥
-name_again frames room members v inside name after place reads there h =
-    let n = Led-here (NameThen h.0 (Behind h.1 room h.2 h.3)) 34 inside (omega arith) h.4 in
-    let text = subst (λ i. TextAt i h.0 n.1) (sym (heads 34 34 inside n.0 n.2).1) n.3 in
-    let same : h.0 ≡ name = (reads.1 h.0 n.1 text).0 in
-    let names = names_of members in
-    let all : names_in (append_fields (fields_of members) (field_then h.0 h.1 h.2)) ≡ names ++ h.0 ∷ names_in h.2
-    = names_in-append (fields_of members) (field_then h.0 h.1 h.2) ∙ ap (λ l. l ++ h.0 ∷ names_in h.2) (names_in-fields_of members) in
-    let distinct = subst AreDistinct all h.5 in
-    let at : place ≡ length names = distinct place (length names) name (slice_get_left names (h.0 ∷ names_in h.2) place name there) (slice_get_seam names (names_in h.2) h.0 ∙ ap Some same) in
-    omega (arith, at, slice_get_within names place name there)
-
--- A value under a name that the object has.
-pub name_taken : (frames : List Frame) (room : ℕ) (members : List (List ℕ × Json)) (name : List ℕ) (x v : Value) (rest : List ℕ) (place : ℕ) → slice_get (names_of members) place ≡ Some name → Close (Member members name ∷ frames) room x v rest → ⊥
-name_taken frames room members name x v rest place there h =
-    let names = names_of members in
-    let all : names_in (append_fields (fields_of members) (field_then name x h.0)) ≡ names ++ name ∷ names_in h.0
-    = names_in-append (fields_of members) (field_then name x h.0) ∙ ap (λ l. l ++ name ∷ names_in h.0) (names_in-fields_of members) in
-    let distinct = subst AreDistinct all h.3 in
-    let at : place ≡ length names = distinct place (length names) name (slice_get_left names (name ∷ names_in h.0) place name there) (slice_get_seam names (names_in h.0) name) in
-    omega (arith, at, slice_get_within names place name there)

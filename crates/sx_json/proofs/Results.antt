@@ -1,26 +1,12 @@
 -- Facts on one side of a result.
-use Rattle.std.proofs.Common.{Result, Ok, Err, IfOk, IfErr}
+use Rattle.std.proofs.Common.{◌≡◌, refl, sym, subst, inl, inr, Result, Ok, Err, IfOk, IfErr, MatchResult}
 use Rattle.sx_json.specs.declared.fault.JsonFault.{JsonFault}
 use Rattle.sx_json.specs.declared.fault.JsonFault.TheVariants.{BadByte, TooDeep, DuplicateName, LoneSurrogate, NumberTooLong, StringTooLong, Ended, OutOfMemory}
-use Rattle.sx_json.specs.Reading.{Refuses}
+use Rattle.sx_json.specs.Reading.{Refuses, UnlessMemory}
 
 pub if_ok_map : {T E : Type 0} (P Q : T → Type 0) (r : Result T E) → IfOk r P → ((x : T) → P x → Q x) → IfOk r Q
 if_ok_map P Q (Ok x) h f = f x h
 if_ok_map P Q (Err e) h f = tt
-
-pub if_err_map : {T E : Type 0} (P Q : Type 0) (r : Result T E) → IfErr r (λ _. P) → (P → Q) → IfErr r (λ _. Q)
-if_err_map P Q (Ok x) h f = tt
-if_err_map P Q (Err e) h f = f h
-
-pub refuses_map : (P Q : Type 0) (f : JsonFault) → (P → Q) → Refuses P f → Refuses Q f
-refuses_map P Q (BadByte place) h p = h p
-refuses_map P Q (TooDeep place) h p = h p
-refuses_map P Q (DuplicateName place) h p = h p
-refuses_map P Q (LoneSurrogate place) h p = h p
-refuses_map P Q (NumberTooLong place) h p = h p
-refuses_map P Q (StringTooLong place) h p = h p
-refuses_map P Q Ended h p = h p
-refuses_map P Q OutOfMemory h p = tt
 
 pub refuses_all : (P : Type 0) (f : JsonFault) → P → Refuses P f
 refuses_all P (BadByte place) p = p
@@ -32,10 +18,27 @@ refuses_all P (StringTooLong place) p = p
 refuses_all P Ended p = p
 refuses_all P OutOfMemory p = tt
 
-pub if_err_refuses : {T : Type 0} (P : Type 0) (r : Result T JsonFault) → P → IfErr r (Refuses P)
-if_err_refuses P (Ok x) p = tt
-if_err_refuses P (Err e) p = refuses_all P e p
+-- A fault that speaks of no text can only be want of memory where there is one.
+pub memory_alone : (P : Type 0) (f : JsonFault) → Refuses P f → (P → ⊥) → f ≡ OutOfMemory
+memory_alone P (BadByte place) p none = absurd (none p)
+memory_alone P (TooDeep place) p none = absurd (none p)
+memory_alone P (DuplicateName place) p none = absurd (none p)
+memory_alone P (LoneSurrogate place) p none = absurd (none p)
+memory_alone P (NumberTooLong place) p none = absurd (none p)
+memory_alone P (StringTooLong place) p none = absurd (none p)
+memory_alone P Ended p none = absurd (none p)
+memory_alone P OutOfMemory p none = refl
 
-pub if_refuses_map : {T : Type 0} (P Q : Type 0) (r : Result T JsonFault) → (P → Q) → IfErr r (Refuses P) → IfErr r (Refuses Q)
-if_refuses_map P Q (Ok x) h p = tt
-if_refuses_map P Q (Err e) h p = refuses_map P Q e h p
+pub unless_map : (P Q : JsonFault → Type 0) (f : JsonFault) → (P f → Q f) → UnlessMemory P f → UnlessMemory Q f
+unless_map P Q f h (inl e) = inl e
+unless_map P Q f h (inr p) = inr (h p)
+
+pub refused_by : {T : Type 0} (P : JsonFault → Type 0) (Q : Type 0) (r : Result T JsonFault) → ((f : JsonFault) → P f → Q) → IfErr r (UnlessMemory P) → IfErr r (Refuses Q)
+refused_by P Q (Ok x) h p = tt
+refused_by P Q (Err e) h (inl is) = subst (Refuses Q) (sym is) tt
+refused_by P Q (Err e) h (inr p) = refuses_all Q e (h e p)
+
+-- The fault of what is read is its only one, and what has one is not read.
+pub no_other : {T : Type 0} (S : T → Type 0) (P : JsonFault → Type 0) (r : Result T JsonFault) (f : JsonFault) → ((x : T) → S x → ⊥) → ((g : JsonFault) → P g → g ≡ f) → IfOk r S → IfErr r (UnlessMemory P) → MatchResult r (λ _. ⊥) (UnlessMemory (λ e. e ≡ f))
+no_other S P (Ok x) f none one ok err = none x ok
+no_other S P (Err e) f none one ok err = unless_map P (λ g. g ≡ f) e (one e) err

@@ -1,48 +1,48 @@
 -- Numbers and literal names where a value is awaited.
-use Rattle.std.proofs.Common.{◌≡◌, ◌≢◌, ℕ, ◌+◌, ◌≤◌, ◌⊎◌, inl, inr, List, [], ◌∷◌, ◌++◌, refl, ap, sym, ◌∙◌, subst, arith, length, take, drop, min, true, false, codes}
+use Rattle.std.proofs.Common.{◌≡◌, ℕ, ◌+◌, ◌≤◌, ◌⊎◌, inl, inr, List, [], ◌∷◌, ◌++◌, refl, ap, sym, ◌∙◌, subst, arith, length, take, drop, min, true, false, codes}
 use Rattle.std.proofs.lemmas.List.{append-nil, length-append, length-take, take-take, take-append-drop}
 use Rattle.std.proofs.Math.Seq.{take-append_seam}
 use Rattle.sx_tree.specs.declared.json.Scalar.TheVariants.{Str, Number, Bool, Null}
 use Rattle.sx_tree.specs.Number.{IsNumber, IsDigit, AreDigits, AreSomeDigits, IsMinus, IsInt, IsFrac, IsSign, IsExp, BeginsNumber, IsLongestFront}
 use Rattle.sx_tree.specs.Value.{Value, scalar, Values, no_values, value_then, Fields, no_fields, field_then}
-use Rattle.sx_json.specs.Grammar.{IsBlank, ValueAt, MoreElementsAt, MoreMembersAt}
-use Rattle.sx_json.specs.Frames.{Close, Awaits, BeginsNumberAt, BeginsScalar, NoValue, ReadsScalar}
-use Rattle.sx_json.specs.Reading.{ReadsText, NoText}
+use Rattle.sx_json.specs.Grammar.{IsBlank, BeginsNumberAt, ValueAt, MoreElementsAt, MoreMembersAt}
+use Rattle.sx_json.specs.Frames.{Close, Awaits, ReadsScalar}
+use Rattle.sx_json.specs.Reading.{ReadsText}
 use Rattle.sx_json.specs.declared.reader.Frame.{Frame}
 use Rattle.sx_json.specs.declared.reader.Frame.TheVariants.{Array, Member}
 use Rattle.sx_json.proofs.StringShapes.{heads}
-use Rattle.sx_json.proofs.Values.{IsFirst, blank_small, Led-here, Led-from, First, a_string, a_number, a_true, a_false, a_null, an_array, an_object, first_of}
-use Rattle.sx_json.proofs.Turns.{Led-solid, no_string, no_value, nothing_awaited, string_read}
+use Rattle.sx_json.proofs.Values.{blank_small, Led-here, Led-from, First, a_string, a_number, a_true, a_false, a_null, an_array, an_object, first_of}
+use Rattle.sx_json.proofs.Turns.{Led-solid, string_read}
 
 -- what may stand behind a value
-abbrev IsEnd : ℕ → Type 0
+abbrev pub IsEnd : ℕ → Type 0
 IsEnd byte = (byte ≤ 32) ⊎ ((byte ≡ 44) ⊎ ((byte ≡ 93) ⊎ (byte ≡ 125)))
+
+pub elements_end : (vs : Values) (room byte : ℕ) (rest left : List ℕ) → MoreElementsAt vs room (byte ∷ rest) left → IsEnd byte
+elements_end no_values room byte rest left (inl e) = inr (inr (inl (heads byte 93 rest left e).0))
+elements_end no_values room byte rest left (inr b) = inl (blank_small byte b.0)
+elements_end (value_then y ys) room byte rest left (inl p) = inr (inl (heads byte 44 rest p.0 p.1).0)
+elements_end (value_then y ys) room byte rest left (inr b) = inl (blank_small byte b.0)
+
+pub members_end : (fs : Fields) (room byte : ℕ) (rest left : List ℕ) → MoreMembersAt fs room (byte ∷ rest) left → IsEnd byte
+members_end no_fields room byte rest left (inl e) = inr (inr (inr (heads byte 125 rest left e).0))
+members_end no_fields room byte rest left (inr b) = inl (blank_small byte b.0)
+members_end (field_then n y ys) room byte rest left (inl p) = inr (inl (heads byte 44 rest p.0 p.1).0)
+members_end (field_then n y ys) room byte rest left (inr b) = inl (blank_small byte b.0)
 
 close_first : (frames : List Frame) (room : ℕ) (x v : Value) (byte : ℕ) (rest : List ℕ) → Close frames room x v (byte ∷ rest) → IsEnd byte
 close_first [] room x v byte rest h = inl (blank_small byte h.1.0)
-close_first (Array items ∷ frames) room x v byte rest h = by_values h.0 h.1 h.2
-  where
-    by_values : (more : Values) (left : List ℕ) → MoreElementsAt more room (byte ∷ rest) left → IsEnd byte
-    by_values no_values left (inl e) = inr (inr (inl (heads byte 93 rest left e).0))
-    by_values no_values left (inr b) = inl (blank_small byte b.0)
-    by_values (value_then y ys) left (inl p) = inr (inl (heads byte 44 rest p.0 p.1).0)
-    by_values (value_then y ys) left (inr b) = inl (blank_small byte b.0)
-close_first (Member members name ∷ frames) room x v byte rest h = by_fields h.0 h.1 h.2
-  where
-    by_fields : (more : Fields) (left : List ℕ) → MoreMembersAt more room (byte ∷ rest) left → IsEnd byte
-    by_fields no_fields left (inl e) = inr (inr (inr (heads byte 125 rest left e).0))
-    by_fields no_fields left (inr b) = inl (blank_small byte b.0)
-    by_fields (field_then n y ys) left (inl p) = inr (inl (heads byte 44 rest p.0 p.1).0)
-    by_fields (field_then n y ys) left (inr b) = inl (blank_small byte b.0)
+close_first (Array items ∷ frames) room x v byte rest h = elements_end h.0 room byte rest h.1 h.2
+close_first (Member members name ∷ frames) room x v byte rest h = members_end h.0 room byte rest h.1 h.2
 
-abbrev IsNumberByte : ℕ → Type 0
+abbrev pub IsNumberByte : ℕ → Type 0
 IsNumberByte byte = IsDigit byte ⊎ ((byte ≡ 43) ⊎ ((byte ≡ 45) ⊎ ((byte ≡ 46) ⊎ ((byte ≡ 69) ⊎ (byte ≡ 101)))))
 
 abbrev pub AreNumberBytes : List ℕ → Type 0
 AreNumberBytes [] = Unit {0}
 AreNumberBytes (byte ∷ bytes) = IsNumberByte byte × AreNumberBytes bytes
 
-apart : (byte : ℕ) → IsNumberByte byte → IsEnd byte → ⊥
+pub apart : (byte : ℕ) → IsNumberByte byte → IsEnd byte → ⊥
 apart byte (inl n) (inl e) = omega (arith, n.0, n.1, e)
 apart byte (inl n) (inr (inl e)) = omega (arith, n.0, n.1, e)
 apart byte (inl n) (inr (inr (inl e))) = omega (arith, n.0, n.1, e)
@@ -76,7 +76,7 @@ AreNumberBytes-left : (xs ys : List ℕ) → AreNumberBytes (xs ++ ys) → AreNu
 AreNumberBytes-left [] ys a = tt
 AreNumberBytes-left (x ∷ xs) ys a = (a.0, AreNumberBytes-left xs ys a.1)
 
-AreNumberBytes-at : (xs ys : List ℕ) (byte : ℕ) → AreNumberBytes (xs ++ byte ∷ ys) → IsNumberByte byte
+pub AreNumberBytes-at : (xs ys : List ℕ) (byte : ℕ) → AreNumberBytes (xs ++ byte ∷ ys) → IsNumberByte byte
 AreNumberBytes-at [] ys byte a = a.0
 AreNumberBytes-at (x ∷ xs) ys byte a = AreNumberBytes-at xs ys byte a.1
 
@@ -201,11 +201,6 @@ true_read frames room v rest left is = (
   λ h. (scalar (Bool true), left, Led-from (λ b. ValueAt (scalar (Bool true)) room b left) (116 ∷ rest) is, h),
 )
 
-pub no_true : (frames : List Frame) (room : ℕ) (v : Value) (rest : List ℕ) → ((left : List ℕ) → 116 ∷ rest ≡ codes "true" ++ left → ⊥) → Awaits frames room v (116 ∷ rest) → ⊥
-no_true frames room v rest none h =
-    let value = Led-here (λ b. ValueAt h.0 room b h.1) 116 rest (omega arith) h.2 in
-    none h.1 (only_true h.0 room rest h.1 (first_of h.0 room 116 rest h.1 value)).1
-
 only_false : (x : Value) (room : ℕ) (rest left : List ℕ) → First x room 102 rest left → (x ≡ scalar (Bool false)) × (102 ∷ rest ≡ codes "false" ++ left)
 only_false x room rest left (a_string c e b t) = absurd (omega (arith, b))
 only_false x room rest left (a_number l e (inl b) n s w) = absurd (omega (arith, b))
@@ -226,11 +221,6 @@ false_read frames room v rest left is = (
   λ h. (scalar (Bool false), left, Led-from (λ b. ValueAt (scalar (Bool false)) room b left) (102 ∷ rest) is, h),
 )
 
-pub no_false : (frames : List Frame) (room : ℕ) (v : Value) (rest : List ℕ) → ((left : List ℕ) → 102 ∷ rest ≡ codes "false" ++ left → ⊥) → Awaits frames room v (102 ∷ rest) → ⊥
-no_false frames room v rest none h =
-    let value = Led-here (λ b. ValueAt h.0 room b h.1) 102 rest (omega arith) h.2 in
-    none h.1 (only_false h.0 room rest h.1 (first_of h.0 room 102 rest h.1 value)).1
-
 only_null : (x : Value) (room : ℕ) (rest left : List ℕ) → First x room 110 rest left → (x ≡ scalar Null) × (110 ∷ rest ≡ codes "null" ++ left)
 only_null x room rest left (a_string c e b t) = absurd (omega (arith, b))
 only_null x room rest left (a_number l e (inl b) n s w) = absurd (omega (arith, b))
@@ -250,11 +240,6 @@ null_read frames room v rest left is = (
       subst (λ l. Close frames room (scalar Null) v l) (same_tail (codes "null") h.1 left (sym n.1 ∙ is)) (subst (λ x. Close frames room x v h.1) n.0 h.3),
   λ h. (scalar Null, left, Led-from (λ b. ValueAt (scalar Null) room b left) (110 ∷ rest) is, h),
 )
-
-pub no_null : (frames : List Frame) (room : ℕ) (v : Value) (rest : List ℕ) → ((left : List ℕ) → 110 ∷ rest ≡ codes "null" ++ left → ⊥) → Awaits frames room v (110 ∷ rest) → ⊥
-no_null frames room v rest none h =
-    let value = Led-here (λ b. ValueAt h.0 room b h.1) 110 rest (omega arith) h.2 in
-    none h.1 (only_null h.0 room rest h.1 (first_of h.0 room 110 rest h.1 value)).1
 
 -- The number that the reader found is the one that stands there.
 pub number_fits : (bytes : List ℕ) (most len : ℕ) → BeginsNumberAt bytes → most ≡ min (length bytes) 65 → IsLongestFront (take most bytes) len → (frames : List Frame) (room : ℕ) (v : Value) → Awaits frames room v bytes
@@ -280,35 +265,11 @@ string_reads bytes inside content left first is quote reads frames room v =
     let s = string_read frames room v inside content left reads in
     (λ h. s.0 (subst (Awaits frames room v) e h), λ h. subst (Awaits frames room v) (sym e) (s.1 h))
 
-pub string_none : (bytes inside : List ℕ) (first : ℕ) → bytes ≡ first ∷ inside → first ≡ 34 → NoText inside → NoValue bytes
-string_none bytes inside first is quote none frames room v h = no_string frames room v inside none (subst (Awaits frames room v) (is ∙ ap (λ b. b ∷ inside) quote) h)
-
-pub nothing_else : (bytes rest : List ℕ) (first : ℕ) → bytes ≡ first ∷ rest → BeginsScalar bytes → first ≢ 34 → ((first ≡ 45) ⊎ IsDigit first → ⊥) → first ≢ 116 → first ≢ 102 → first ≢ 110 → NoValue bytes
-nothing_else bytes rest first is begins quote number t f n frames room v h = no_value frames room v first rest (begins.0 first rest is) none (subst (Awaits frames room v) is h)
-  where
-    none : IsFirst first → ⊥
-    none (inl e) = quote e
-    none (inr (inl e)) = number e
-    none (inr (inr (inl e))) = t e
-    none (inr (inr (inr (inl e)))) = f e
-    none (inr (inr (inr (inr (inl e))))) = n e
-    none (inr (inr (inr (inr (inr (inl e)))))) = begins.1 rest (is ∙ ap (λ b. b ∷ rest) e)
-    none (inr (inr (inr (inr (inr (inr e)))))) = begins.2 rest (is ∙ ap (λ b. b ∷ rest) e)
-
-pub nothing_at_end : (bytes : List ℕ) → length bytes ≡ 0 → NoValue bytes
-nothing_at_end [] e frames room v h = nothing_awaited frames room v h
-nothing_at_end (b ∷ bs) e frames room v h = absurd (omega (arith, e))
-
 pub true_reads : (bytes rest left : List ℕ) (first : ℕ) → bytes ≡ first ∷ rest → first ≡ 116 → bytes ≡ codes "true" ++ left → ReadsScalar bytes (Bool true) left
 true_reads bytes rest left first is at whole frames room v =
     let e : bytes ≡ 116 ∷ rest = is ∙ ap (λ b. b ∷ rest) at in
     let s = true_read frames room v rest left (sym e ∙ whole) in
     (λ h. s.0 (subst (Awaits frames room v) e h), λ h. subst (Awaits frames room v) (sym e) (s.1 h))
-
-pub true_none : (bytes rest : List ℕ) (first : ℕ) → bytes ≡ first ∷ rest → first ≡ 116 → ((left : List ℕ) → bytes ≡ codes "true" ++ left → ⊥) → NoValue bytes
-true_none bytes rest first is at none frames room v h =
-    let e : bytes ≡ 116 ∷ rest = is ∙ ap (λ b. b ∷ rest) at in
-    no_true frames room v rest (λ left w. none left (e ∙ w)) (subst (Awaits frames room v) e h)
 
 pub false_reads : (bytes rest left : List ℕ) (first : ℕ) → bytes ≡ first ∷ rest → first ≡ 102 → bytes ≡ codes "false" ++ left → ReadsScalar bytes (Bool false) left
 false_reads bytes rest left first is at whole frames room v =
@@ -316,18 +277,8 @@ false_reads bytes rest left first is at whole frames room v =
     let s = false_read frames room v rest left (sym e ∙ whole) in
     (λ h. s.0 (subst (Awaits frames room v) e h), λ h. subst (Awaits frames room v) (sym e) (s.1 h))
 
-pub false_none : (bytes rest : List ℕ) (first : ℕ) → bytes ≡ first ∷ rest → first ≡ 102 → ((left : List ℕ) → bytes ≡ codes "false" ++ left → ⊥) → NoValue bytes
-false_none bytes rest first is at none frames room v h =
-    let e : bytes ≡ 102 ∷ rest = is ∙ ap (λ b. b ∷ rest) at in
-    no_false frames room v rest (λ left w. none left (e ∙ w)) (subst (Awaits frames room v) e h)
-
 pub null_reads : (bytes rest left : List ℕ) (first : ℕ) → bytes ≡ first ∷ rest → first ≡ 110 → bytes ≡ codes "null" ++ left → ReadsScalar bytes Null left
 null_reads bytes rest left first is at whole frames room v =
     let e : bytes ≡ 110 ∷ rest = is ∙ ap (λ b. b ∷ rest) at in
     let s = null_read frames room v rest left (sym e ∙ whole) in
     (λ h. s.0 (subst (Awaits frames room v) e h), λ h. subst (Awaits frames room v) (sym e) (s.1 h))
-
-pub null_none : (bytes rest : List ℕ) (first : ℕ) → bytes ≡ first ∷ rest → first ≡ 110 → ((left : List ℕ) → bytes ≡ codes "null" ++ left → ⊥) → NoValue bytes
-null_none bytes rest first is at none frames room v h =
-    let e : bytes ≡ 110 ∷ rest = is ∙ ap (λ b. b ∷ rest) at in
-    no_null frames room v rest (λ left w. none left (e ∙ w)) (subst (Awaits frames room v) e h)

@@ -1,8 +1,7 @@
 -- White space and words, byte by byte.
 use Rattle.std.proofs.Common.{◌≡◌, ℕ, ◌+◌, ◌<◌, List, [], ◌∷◌, ◌++◌, refl, ap, sym, ◌∙◌, subst, length, take, drop, get_or, append_assoc}
 use Rattle.std.proofs.lemmas.List.{take-append-drop, take_more}
-use Rattle.sx_json.specs.Grammar.{IsBlank, AreBlanks}
-use Rattle.sx_json.specs.Frames.{Skips, IsSolid, BeginsOther}
+use Rattle.sx_json.specs.Grammar.{AreBlanks, BeginsOther, IsBlank, IsSolid, Skips}
 use Rattle.sx_json.proofs.StringShapes.{heads, nothing_there}
 
 AreBlanks-push : (blanks : List ℕ) (b : ℕ) → AreBlanks blanks → IsBlank b → AreBlanks (blanks ++ b ∷ [])
@@ -21,7 +20,7 @@ solid_at rest after b is none byte tail e blank = none (subst IsBlank (heads byt
 pub solid_nothing : (rest : List ℕ) → rest ≡ [] → IsSolid rest
 solid_nothing rest is byte tail e blank = nothing_there byte tail (sym is ∙ e)
 
-same_tail : (word a b : List ℕ) → word ++ a ≡ word ++ b → a ≡ b
+pub same_tail : (word a b : List ℕ) → word ++ a ≡ word ++ b → a ≡ b
 same_tail [] a b e = e
 same_tail (x ∷ xs) a b e = same_tail xs a b (heads x x (xs ++ a) (xs ++ b) e).1
 

@@ -1,5 +1,5 @@
 -- Each step of the reader changes nothing of what the text may spell.
-use Rattle.std.proofs.Common.{◌≡◌, ℕ, zero, suc, ◌+◌, ◌≤◌, ◌<◌, List, [], ◌∷◌, ◌++◌, refl, ap, sym, ◌∙◌, subst, arith, length, reverse, Some, slice_get, rules}
+use Rattle.std.proofs.Common.{◌≡◌, ℕ, zero, suc, ◌+◌, ◌<◌, List, [], ◌∷◌, ◌++◌, refl, ap, sym, ◌∙◌, subst, arith, length, reverse, rules}
 use Rattle.std.proofs.lemmas.Grind.{common_steps}
 use Rattle.std.proofs.lemmas.List.{length-append}
 use Rattle.sx_tree.specs.declared.json.Scalar.{Scalar}
@@ -7,20 +7,21 @@ use Rattle.sx_tree.specs.declared.json.Json as json
 use Rattle.sx_tree.specs.declared.json.Json.{Json, the_lemmas}
 use Rattle.sx_tree.specs.Names.{AreDistinct, names_of}
 use Rattle.sx_tree.specs.Value.{scalar, array, object, no_fields, value_of, values_of, fields_of}
-use Rattle.sx_json.specs.Reading.{ReadsText, NoText}
-use Rattle.sx_json.specs.Frames.{Close, Awaits, AwaitsElements, AwaitsMembers, AwaitsName, Goes, ReadsScalar, NoValue, IsSolid, BeginsOther, Skips, Follows, Steps, Stuck}
+use Rattle.sx_json.specs.Reading.{ReadsText}
+use Rattle.sx_json.specs.Frames.{Close, Awaits, AwaitsElements, AwaitsMembers, AwaitsName, Goes, ReadsScalar, Follows, Steps}
+use Rattle.sx_json.specs.Grammar.{IsSolid, BeginsOther, Skips}
 use Rattle.sx_json.specs.declared.reader.Frame.{Frame}
 use Rattle.sx_json.specs.declared.reader.Frame.TheVariants.{Array, Member}
 use Rattle.sx_json.specs.declared.reader.Turn.{Turn}
 use Rattle.sx_json.specs.declared.reader.Turn.TheVariants as turn
-use Rattle.sx_json.proofs.Turns.{array_opens, no_array, object_opens, no_object, nothing_awaited, array_ends, array_begins, element_follows, array_closes, no_element, array_open_at_end, no_elements_at_end}
-use Rattle.sx_json.proofs.MemberTurns.{object_ends, members_begin, no_members_at_end, member_follows, object_closes, no_member, object_open_at_end, name_read, no_colon, no_name, no_name_at_end, no_name_text, name_again, name_taken}
+use Rattle.sx_json.proofs.Turns.{array_opens, object_opens, nothing_awaited, array_ends, array_begins, element_follows, array_closes, no_elements_at_end}
+use Rattle.sx_json.proofs.MemberTurns.{object_ends, members_begin, no_members_at_end, member_follows, object_closes, name_read, no_name_at_end}
 use Rattle.sx_json.proofs.Blanks.{blanks_go}
 
-reverse_push : (frames : List Frame) (f : Frame) → reverse (frames ++ f ∷ []) ≡ f ∷ reverse frames
+pub reverse_push : (frames : List Frame) (f : Frame) → reverse (frames ++ f ∷ []) ≡ f ∷ reverse frames
 reverse_push frames f = grind (arith, common_steps)
 
-length_pushed : (frames : List Frame) (f : Frame) → length (frames ++ f ∷ []) ≡ length frames + 1
+pub length_pushed : (frames : List Frame) (f : Frame) → length (frames ++ f ∷ []) ≡ length frames + 1
 length_pushed frames f = length-append frames (f ∷ [])
 
 scalar_is : (s : Scalar) → value_of (json.Scalar s) ≡ scalar s
@@ -41,9 +42,6 @@ step_blanks t frames bytes rest skips v = (
 pub step_trans : (t u w : Turn) (f g h : List Frame) (a b c : List ℕ) → Steps t f a u g b → Steps u g b w h c → Steps t f a w h c
 step_trans t u w f g h a b c first second v = (λ x. (second v).0 ((first v).0 x), λ x. (first v).1 ((second v).1 x))
 
-pub stuck_after : (t u : Turn) (f g : List Frame) (a b : List ℕ) → Steps t f a u g b → Stuck u g b → Stuck t f a
-stuck_after t u f g a b steps stuck v x = stuck v ((steps v).0 x)
-
 -- Where a value is awaited.
 pub step_array : (frames : List Frame) (bytes after : List ℕ) → bytes ≡ 91 ∷ after → length frames < 256 → Steps turn.Value frames bytes turn.FirstValue frames after
 step_array frames bytes after is small v = (to, from)
@@ -56,10 +54,6 @@ step_array frames bytes after is small v = (to, from)
     from (zero, e, h) = absurd h
     from (suc r, e, h) = (suc r, e, subst (Awaits (reverse frames) (suc r) v) (sym is) ((array_opens (reverse frames) r v after).1 h))
 
-pub stuck_array : (frames : List Frame) (bytes after : List ℕ) → bytes ≡ 91 ∷ after → 256 ≤ length frames → Stuck turn.Value frames bytes
-stuck_array frames bytes after is large v (zero, e, h) = no_array (reverse frames) v after (subst (Awaits (reverse frames) 0 v) is h)
-stuck_array frames bytes after is large v (suc r, e, h) = omega (arith, e, large)
-
 pub step_object : (frames : List Frame) (bytes after : List ℕ) → bytes ≡ 123 ∷ after → length frames < 256 → Steps turn.Value frames bytes turn.FirstName frames after
 step_object frames bytes after is small v = (to, from)
   where
@@ -71,18 +65,11 @@ step_object frames bytes after is small v = (to, from)
     from (zero, e, h) = absurd h
     from (suc r, e, h) = (suc r, e, subst (Awaits (reverse frames) (suc r) v) (sym is) ((object_opens (reverse frames) r v after).1 h))
 
-pub stuck_object : (frames : List Frame) (bytes after : List ℕ) → bytes ≡ 123 ∷ after → 256 ≤ length frames → Stuck turn.Value frames bytes
-stuck_object frames bytes after is large v (zero, e, h) = no_object (reverse frames) v after (subst (Awaits (reverse frames) 0 v) is h)
-stuck_object frames bytes after is large v (suc r, e, h) = omega (arith, e, large)
-
 pub step_scalar : (frames : List Frame) (bytes left : List ℕ) (s : Scalar) → ReadsScalar bytes s left → Steps turn.Value frames bytes (turn.After (json.Scalar s)) frames left
 step_scalar frames bytes left s reads v = (
   λ h. (h.0, h.1, subst (λ x. Close (reverse frames) h.0 x v left) (sym (scalar_is s)) ((reads (reverse frames) h.0 v).0 h.2)),
   λ h. (h.0, h.1, (reads (reverse frames) h.0 v).1 (subst (λ x. Close (reverse frames) h.0 x v left) (scalar_is s) h.2)),
 )
-
-pub stuck_scalar : (frames : List Frame) (bytes : List ℕ) → NoValue bytes → Stuck turn.Value frames bytes
-stuck_scalar frames bytes none v h = none (reverse frames) h.0 v h.2
 
 -- Behind an opening bracket.
 pub step_array_ends : (frames : List Frame) (bytes after : List ℕ) → bytes ≡ 93 ∷ after → length frames < 256 → Steps turn.FirstValue frames bytes (turn.After (json.Array [])) frames after
@@ -152,29 +139,6 @@ step_members_begin frames (b ∷ rest) other solid v = (to, from)
     from (zero, e, h) = absurd h
     from (suc r, e, h) = (suc r, e, (steps r).1 h)
 
--- Where a name is awaited.
-pub stuck_name : (frames : List Frame) (bytes : List ℕ) (members : List (List ℕ × Json)) → BeginsOther 34 bytes → IsSolid bytes → Stuck (turn.Name members) frames bytes
-stuck_name frames bytes members other solid v (zero, e, h) = h
-stuck_name frames [] members other solid v (suc r, e, h) = no_name_at_end (fields_of members) (reverse frames) r v h
-stuck_name frames (b ∷ rest) members other solid v (suc r, e, h) = no_name (fields_of members) (reverse frames) r v b rest (solid b rest refl) (λ q. other rest (ap (λ c. c ∷ rest) q)) h
-
-pub stuck_name_text : (frames : List Frame) (bytes inside : List ℕ) (members : List (List ℕ × Json)) → bytes ≡ 34 ∷ inside → NoText inside → Stuck (turn.Name members) frames bytes
-stuck_name_text frames bytes inside members is none v (zero, e, h) = h
-stuck_name_text frames bytes inside members is none v (suc r, e, h) = no_name_text (fields_of members) (reverse frames) r v inside none (subst (AwaitsName (fields_of members) (reverse frames) r v) is h)
-
-pub stuck_name_again : (frames : List Frame) (bytes inside name after : List ℕ) (members : List (List ℕ × Json)) (place : ℕ) → bytes ≡ 34 ∷ inside → ReadsText inside name after → slice_get (names_of members) place ≡ Some name
-    → Stuck (turn.Name members) frames bytes
-stuck_name_again frames bytes inside name after members place is reads there v (zero, e, h) = h
-stuck_name_again frames bytes inside name after members place is reads there v (suc r, e, h) =
-    name_again (reverse frames) r members v inside name after place reads there (subst (AwaitsName (fields_of members) (reverse frames) r v) is h)
-
-pub stuck_colon : (frames : List Frame) (bytes inside name after rest : List ℕ) (members : List (List ℕ × Json)) → bytes ≡ 34 ∷ inside → ReadsText inside name after → Skips after rest → IsSolid rest → BeginsOther 58 rest
-    → Stuck (turn.Name members) frames bytes
-stuck_colon frames bytes inside name after rest members is reads skips solid other v (zero, e, h) = h
-stuck_colon frames bytes inside name after rest members is reads skips solid other v (suc r, e, h) =
-    no_colon (reverse frames) r members v inside name after skips.0 rest reads skips.1 skips.2
-    (λ b t q. (solid b t q, λ same. other t (q ∙ ap (λ c. c ∷ t) same))) (subst (AwaitsName (fields_of members) (reverse frames) r v) is h)
-
 pub step_name : (frames : List Frame) (bytes inside name after colon rest : List ℕ) (members : List (List ℕ × Json)) → bytes ≡ 34 ∷ inside → ReadsText inside name after → Skips after colon → colon ≡ 58 ∷ rest
     → Steps (turn.Name members) frames bytes turn.Value (frames ++ Member members name ∷ []) rest
 step_name frames bytes inside name after colon rest members is reads skips at v = (to, from)
@@ -231,12 +195,6 @@ step_array_closes frames bytes after items x is small v = (to, from)
           ((array_closes (reverse frames) r items x v after).1 (subst (λ y. Close (reverse frames) (suc r) y v after) (array_is (items ++ x ∷ [])) h))),
     )
 
-pub stuck_element : (frames : List Frame) (bytes : List ℕ) (items : List Json) (x : Json) → BeginsOther 44 bytes → BeginsOther 93 bytes → IsSolid bytes → Stuck (turn.After x) (frames ++ Array items ∷ []) bytes
-stuck_element frames [] items x comma bracket solid v (r, e, h) = array_open_at_end (reverse frames) r items (value_of x) v (subst (λ fs. Close fs r (value_of x) v []) (reverse_push frames (Array items)) h)
-stuck_element frames (b ∷ rest) items x comma bracket solid v (r, e, h) =
-    no_element (reverse frames) r items (value_of x) v b rest (solid b rest refl) (λ q. comma rest (ap (λ c. c ∷ rest) q)) (λ q. bracket rest (ap (λ c. c ∷ rest) q))
-    (subst (λ fs. Close fs r (value_of x) v (b ∷ rest)) (reverse_push frames (Array items)) h)
-
 -- Behind a value in an object.
 pub step_member : (frames : List Frame) (bytes after : List ℕ) (members : List (List ℕ × Json)) (name : List ℕ) (x : Json) → bytes ≡ 44 ∷ after → length frames < 256
     → Steps (turn.After x) (frames ++ Member members name ∷ []) bytes (turn.Name (members ++ (name, x) ∷ [])) frames after
@@ -278,19 +236,3 @@ step_object_closes frames bytes after members name x is small distinct v = (to, 
       subst (λ fs. Close fs r (value_of x) v bytes) (sym (reverse_push frames (Member members name))) (subst (Close (Member members name ∷ reverse frames) r (value_of x) v) (sym is)
           ((object_closes (reverse frames) r members name x v after distinct).1 (subst (λ y. Close (reverse frames) (suc r) y v after) (object_is (members ++ (name, x) ∷ [])) h))),
     )
-
-pub stuck_member : (frames : List Frame) (bytes : List ℕ) (members : List (List ℕ × Json)) (name : List ℕ) (x : Json) → BeginsOther 44 bytes → BeginsOther 125 bytes → IsSolid bytes → Stuck (turn.After x) (frames ++ Member members name ∷ []) bytes
-stuck_member frames [] members name x comma brace solid v (r, e, h) = object_open_at_end (reverse frames) r members name (value_of x) v (subst (λ fs. Close fs r (value_of x) v []) (reverse_push frames (Member members name)) h)
-stuck_member frames (b ∷ rest) members name x comma brace solid v (r, e, h) =
-    no_member (reverse frames) r members name (value_of x) v b rest (solid b rest refl) (λ q. comma rest (ap (λ c. c ∷ rest) q)) (λ q. brace rest (ap (λ c. c ∷ rest) q))
-    (subst (λ fs. Close fs r (value_of x) v (b ∷ rest)) (reverse_push frames (Member members name)) h)
-
--- Behind the value of the text.
-pub stuck_end : (frames : List Frame) (bytes : List ℕ) (x : Json) (b : ℕ) (rest : List ℕ) → frames ≡ [] → bytes ≡ b ∷ rest → IsSolid bytes → Stuck (turn.After x) frames bytes
-stuck_end frames bytes x b rest none is solid v (r, e, h) =
-    let c = subst (λ l. Close [] r (value_of x) v l) is (subst (λ fs. Close (reverse fs) r (value_of x) v bytes) none h) in
-    solid b rest is c.1.0
-
-pub stuck_taken : (frames : List Frame) (bytes : List ℕ) (members : List (List ℕ × Json)) (name : List ℕ) (x : Json) (place : ℕ) → slice_get (names_of members) place ≡ Some name → Stuck (turn.After x) (frames ++ Member members name ∷ []) bytes
-stuck_taken frames bytes members name x place there v (r, e, h) =
-    name_taken (reverse frames) r members name (value_of x) v bytes place there (subst (λ fs. Close fs r (value_of x) v bytes) (reverse_push frames (Member members name)) h)

@@ -1,14 +1,20 @@
 -- The value of a whole text.
-use Rattle.std.proofs.Common.{◌≡◌, ℕ, List, [], refl, subst, arith, IsUtf8}
+use Rattle.std.proofs.Common.{◌≡◌, ℕ, inl, inr, List, [], refl, ap, subst, arith, length, take, IsUtf8}
 use Rattle.sx_tree.specs.declared.json.Json.{Json}
 use Rattle.sx_tree.specs.Value.{Value, value_of}
-use Rattle.sx_json.specs.Grammar.{Led, ValueAt, Spells}
-use Rattle.sx_json.specs.Frames.{Skips, Follows, Steps, Stuck}
+use Rattle.sx_json.specs.Grammar.{Led, Skips, Spells, ValueAt}
+use Rattle.sx_json.specs.Frames.{Follows, Steps}
+use Rattle.std.proofs.lemmas.List.{length-take-le}
+use Rattle.std.specs.Str.{IsValidUpTo}
+use Rattle.sx_json.specs.Faults.{Faults, TextFault}
+use Rattle.sx_json.specs.StringFaults.{cut}
+use Rattle.sx_json.specs.Reading.{UnlessMemory}
+use Rattle.sx_json.specs.declared.fault.JsonFault.{JsonFault}
 use Rattle.sx_json.specs.Outcome.{Reads}
 use Rattle.sx_json.specs.declared.reader.Frame.{Frame}
 use Rattle.sx_json.specs.declared.reader.Turn.{Turn}
 use Rattle.sx_json.specs.declared.reader.Turn.TheVariants as turn
-use Rattle.sx_json.proofs.Steps.{step_blanks, step_trans, stuck_after}
+use Rattle.sx_json.proofs.Steps.{step_blanks, step_trans}
 
 pub steps_none : (text : List ℕ) → Steps turn.Value [] text turn.Value [] text
 steps_none text v = (λ h. h, λ h. h)
@@ -16,10 +22,6 @@ steps_none text v = (λ h. h, λ h. h)
 pub goes_on : (t next : Turn) (frames new : List Frame) (text rest bytes after : List ℕ) → Steps turn.Value [] text t frames rest → Skips rest bytes → Steps t frames bytes next new after → Steps turn.Value [] text next new after
 goes_on t next frames new text rest bytes after begun skips step =
     step_trans turn.Value t next [] frames new text bytes after (step_trans turn.Value t t [] frames frames text rest bytes begun (step_blanks t frames rest bytes skips)) step
-
-pub stuck_there : (t : Turn) (frames : List Frame) (text rest bytes : List ℕ) → Steps turn.Value [] text t frames rest → Skips rest bytes → Stuck t frames bytes → Stuck turn.Value [] text
-stuck_there t frames text rest bytes begun skips stuck =
-    stuck_after turn.Value t [] frames text bytes (step_trans turn.Value t t [] frames frames text rest bytes begun (step_blanks t frames rest bytes skips)) stuck
 
 pub done_reads : (t : Turn) (frames : List Frame) (text rest bytes : List ℕ) (x : Json) → Steps turn.Value [] text t frames rest → Skips rest bytes → (frames ≡ []) × (bytes ≡ []) × (t ≡ turn.After x) → Reads text x
 done_reads t frames text rest bytes x begun skips done =
@@ -37,3 +39,8 @@ Follows-Spells text v utf8 (room, e, h) =
     let is_room : room ≡ 256 = omega (arith, e) in
     let led = subst (λ r. Led (λ b. ValueAt h.0 r b h.1) text) is_room h.2 in
     (utf8, h.1, subst (λ x. Led (λ b. ValueAt x 256 b h.1) text) h.3.0 led, h.3.1)
+
+pub cut_fault : (text : List ℕ) (valid : ℕ) (f : JsonFault) → (IsUtf8 text → ⊥) → IsValidUpTo text valid → UnlessMemory (TextFault (length (take valid text)) (take valid text)) f → UnlessMemory (Faults text) (cut valid f)
+cut_fault text valid f none at (inl e) = inl (ap (cut valid) e)
+cut_fault text valid f none at (inr h) =
+    let counted : length (take valid text) ≡ valid = length-take-le valid text (omega (arith, at.short)) in inr (inr (none, valid, at, inl (f, subst (λ n. TextFault n (take valid text) f) counted h, refl)))

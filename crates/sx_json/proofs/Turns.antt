@@ -6,13 +6,14 @@ use Rattle.sx_tree.specs.Names.{AreDistinct}
 use Rattle.sx_tree.specs.Number.{IsDigit}
 use Rattle.sx_tree.specs.Value.{Value, scalar, array, object, Values, no_values, value_then, Fields, value_of, values_of}
 use Rattle.sx_json.specs.Strings.{TextAt}
-use Rattle.sx_json.specs.Reading.{ReadsText, NoText}
+use Rattle.sx_json.specs.Reading.{ReadsText}
+use Rattle.sx_json.specs.Faults.{IsFirst}
 use Rattle.sx_json.specs.Grammar.{IsBlank, Led, ValueAt, ElementsAt, MoreElementsAt, MembersAt, names_in}
 use Rattle.sx_json.specs.Frames.{Close, Awaits, AwaitsElements, AwaitsMembers, append_values}
 use Rattle.sx_json.specs.declared.reader.Frame.{Frame}
 use Rattle.sx_json.specs.declared.reader.Frame.TheVariants.{Array}
 use Rattle.sx_json.proofs.StringShapes.{heads, nothing_there}
-use Rattle.sx_json.proofs.Values.{blank_small, Led-here, Led-from, First, a_string, a_number, a_true, a_false, a_null, an_array, an_object, first_of, no_value_of_nothing, IsFirst, no_value_from}
+use Rattle.sx_json.proofs.Values.{blank_small, Led-here, Led-from, First, a_string, a_number, a_true, a_false, a_null, an_array, an_object, first_of, no_value_of_nothing, no_value_from}
 
 digit_apart : (byte : ℕ) → (byte ≡ 45) ⊎ IsDigit byte → (byte ≤ 57) × (45 ≤ byte)
 digit_apart byte (inl e) = (omega (arith, e), omega (arith, e))
@@ -58,11 +59,6 @@ array_opens frames room v rest = (
   λ h. (array h.0, h.1, Led-from (λ b. ValueAt (array h.0) (suc room) b h.1) (91 ∷ rest) (room, rest, refl, refl, h.2), h.3),
 )
 
-pub no_array : (frames : List Frame) (v : Value) (rest : List ℕ) → Awaits frames 0 v (91 ∷ rest) → ⊥
-no_array frames v rest h =
-    let value = Led-here (λ b. ValueAt h.0 0 b h.1) 91 rest (omega arith) h.2 in
-    let a = only_array h.0 0 rest h.1 (first_of h.0 0 91 rest h.1 value) in omega (arith, a.3)
-
 pub object_opens : (frames : List Frame) (room : ℕ) (v : Value) (rest : List ℕ) → (Awaits frames (suc room) v (123 ∷ rest) → AwaitsMembers frames room v rest) × (AwaitsMembers frames room v rest → Awaits frames (suc room) v (123 ∷ rest))
 object_opens frames room v rest = (
   λ h.
@@ -71,11 +67,6 @@ object_opens frames room v rest = (
       (a.0, h.1, subst (λ r. MembersAt a.0 r rest h.1) (suc_same room a.1 a.3) a.5, a.4, subst (λ x. Close frames (suc room) x v h.1) a.2 h.3),
   λ h. (object h.0, h.1, Led-from (λ b. ValueAt (object h.0) (suc room) b h.1) (123 ∷ rest) (room, rest, refl, refl, h.3, h.2), h.4),
 )
-
-pub no_object : (frames : List Frame) (v : Value) (rest : List ℕ) → Awaits frames 0 v (123 ∷ rest) → ⊥
-no_object frames v rest h =
-    let value = Led-here (λ b. ValueAt h.0 0 b h.1) 123 rest (omega arith) h.2 in
-    let a = only_object h.0 0 rest h.1 (first_of h.0 0 123 rest h.1 value) in omega (arith, a.3)
 
 -- A string where a value is awaited.
 pub string_read : (frames : List Frame) (room : ℕ) (v : Value) (inside content left : List ℕ) → ReadsText inside content left
@@ -88,19 +79,6 @@ string_read frames room v inside content left reads = (
       subst (λ l. Close frames room (scalar (Str content)) v l) same.1 (subst (λ x. Close frames room x v h.1) (s.1 ∙ ap (λ c. scalar (Str c)) same.0) h.3),
   λ h. (scalar (Str content), left, Led-from (λ b. ValueAt (scalar (Str content)) room b left) (34 ∷ inside) (inside, refl, reads.0), h),
 )
-
-pub no_string : (frames : List Frame) (room : ℕ) (v : Value) (inside : List ℕ) → NoText inside → Awaits frames room v (34 ∷ inside) → ⊥
-no_string frames room v inside none h =
-    let value = Led-here (λ b. ValueAt h.0 room b h.1) 34 inside (omega arith) h.2 in
-    let s = only_string h.0 room inside h.1 (first_of h.0 room 34 inside h.1 value) in none s.0 h.1 s.2
-
--- No value begins so.
-pub no_value : (frames : List Frame) (room : ℕ) (v : Value) (byte : ℕ) (rest : List ℕ) → (IsBlank byte → ⊥) → (IsFirst byte → ⊥) → Awaits frames room v (byte ∷ rest) → ⊥
-no_value frames room v byte rest solid other h = by_cases h.2
-  where
-    by_cases : Led (λ b. ValueAt h.0 room b h.1) (byte ∷ rest) → ⊥
-    by_cases (inl value) = no_value_from h.0 room byte rest h.1 other value
-    by_cases (inr blank) = solid blank.0
 
 pub nothing_awaited : (frames : List Frame) (room : ℕ) (v : Value) → Awaits frames room v [] → ⊥
 nothing_awaited frames room v h = no_value_of_nothing h.0 room h.1 h.2
@@ -206,24 +184,6 @@ array_closes frames room items x v rest = (
     by_values (value_then y ys) left h close =
         let p = Led-here (λ b. (behind : List ℕ) × (b ≡ 44 ∷ behind) × Led (λ d. (after : List ℕ) × ValueAt y room d after × MoreElementsAt ys room after left) behind) 93 rest (omega arith) h in
         absurd (omega (arith, (heads 93 44 rest p.0 p.1).0))
-
--- Another byte behind a value in an array.
-pub no_element : (frames : List Frame) (room : ℕ) (items : List Json) (x v : Value) (byte : ℕ) (rest : List ℕ) → (IsBlank byte → ⊥) → byte ≢ 44 → byte ≢ 93 → Close (Array items ∷ frames) room x v (byte ∷ rest) → ⊥
-no_element frames room items x v byte rest solid comma bracket h = by_values h.0 h.1 h.2
-  where
-    by_values : (more : Values) (left : List ℕ) → MoreElementsAt more room (byte ∷ rest) left → ⊥
-    by_values no_values left m =
-        let e = Led-solid (λ b. b ≡ 93 ∷ left) byte rest solid m in bracket (heads byte 93 rest left e).0
-    by_values (value_then y ys) left m =
-        let p = Led-solid (λ b. (behind : List ℕ) × (b ≡ 44 ∷ behind) × Led (λ d. (after : List ℕ) × ValueAt y room d after × MoreElementsAt ys room after left) behind) byte rest solid m in
-        comma (heads byte 44 rest p.0 p.1).0
-
-pub array_open_at_end : (frames : List Frame) (room : ℕ) (items : List Json) (x v : Value) → Close (Array items ∷ frames) room x v [] → ⊥
-array_open_at_end frames room items x v h = by_values h.0 h.1 h.2
-  where
-    by_values : (more : Values) (left : List ℕ) → MoreElementsAt more room [] left → ⊥
-    by_values no_values left m = nothing_there 93 left m
-    by_values (value_then y ys) left m = nothing_there 44 m.0 m.1
 
 pub no_elements_at_end : (frames : List Frame) (room : ℕ) (v : Value) → AwaitsElements frames room v [] → ⊥
 no_elements_at_end frames room v h = by_values h.0 h.1 h.2

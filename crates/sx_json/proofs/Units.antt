@@ -1,11 +1,6 @@
--- Four digits are one number, and no other reading of the bytes.
-use Rattle.std.proofs.Common.{◌≡◌, ℕ, ◌+◌, ◌*◌, inl, inr, List, ◌∷◌, refl, ap, sym, ◌∙◌, subst, arith, Result, Ok, Err, IfErr}
-use Rattle.sx_json.specs.Strings.{IsHexDigit, UnitAt}
-use Rattle.sx_json.specs.Reading.{DigitAt, NoDigit, ReadsUnit, NoUnit}
-
-pub if_err : {T E P : Type 0} (r : Result T E) → P → IfErr r (λ _. P)
-if_err (Ok x) p = tt
-if_err (Err e) p = p
+-- Four digits are one number.
+use Rattle.std.proofs.Common.{◌≡◌, ℕ, ◌+◌, ◌*◌, inl, inr, List, ◌∷◌, refl, ap, sym, ◌∙◌, subst, arith}
+use Rattle.sx_json.specs.Strings.{DigitAt, IsHexDigit, UnitAt}
 
 pub digits_same : (byte d e : ℕ) → IsHexDigit byte d → IsHexDigit byte e → d ≡ e
 digits_same byte d e (inl p) (inl q) = omega (arith, p.2, q.2)
@@ -29,50 +24,28 @@ DigitAt-same bytes left others d e p q =
 pub first_digit : (bytes : List ℕ) (unit : ℕ) (left : List ℕ) (u : UnitAt bytes unit left) → DigitAt bytes u.x (u.b ∷ u.c ∷ u.d ∷ left)
 first_digit bytes unit left u = (u.a, u.a_is, u.bytes_are)
 
-pub NoUnit-1 : (bytes : List ℕ) → NoDigit bytes → NoUnit bytes
-NoUnit-1 bytes none unit left u = none u.x (u.b ∷ u.c ∷ u.d ∷ left) (first_digit bytes unit left u)
+pub UnitAt-digits : (bytes one two three after : List ℕ) (x y z w : ℕ) → DigitAt bytes x one → DigitAt one y two → DigitAt two z three → DigitAt three w after → UnitAt bytes (((x * 16 + y) * 16 + z) * 16 + w) after
+UnitAt-digits bytes one two three after x y z w p q r o = record {
+  a = p.0;
+  b = q.0;
+  c = r.0;
+  d = o.0;
+  x = x;
+  y = y;
+  z = z;
+  w = w;
+  a_is = p.1;
+  b_is = q.1;
+  c_is = r.1;
+  d_is = o.1;
+  unit_is = refl;
+  bytes_are = p.2 ∙ ap (λ l. p.0 ∷ l) (q.2 ∙ ap (λ l. q.0 ∷ l) (r.2 ∙ ap (λ l. r.0 ∷ l) o.2));
+}
 
-pub NoUnit-2 : (bytes one : List ℕ) (x : ℕ) → DigitAt bytes x one → NoDigit one → NoUnit bytes
-NoUnit-2 bytes one x p none unit left u =
-    let s = DigitAt-same bytes one (u.b ∷ u.c ∷ u.d ∷ left) x u.x p (first_digit bytes unit left u) in
-    none u.y (u.c ∷ u.d ∷ left) (u.b, u.b_is, s.1)
-
-pub NoUnit-3 : (bytes one two : List ℕ) (x y : ℕ) → DigitAt bytes x one → DigitAt one y two → NoDigit two → NoUnit bytes
-NoUnit-3 bytes one two x y p q none unit left u =
-    let s = DigitAt-same bytes one (u.b ∷ u.c ∷ u.d ∷ left) x u.x p (first_digit bytes unit left u) in
-    let t = DigitAt-same one two (u.c ∷ u.d ∷ left) y u.y q (u.b, u.b_is, s.1) in
-    none u.z (u.d ∷ left) (u.c, u.c_is, t.1)
-
-pub NoUnit-4 : (bytes one two three : List ℕ) (x y z : ℕ) → DigitAt bytes x one → DigitAt one y two → DigitAt two z three → NoDigit three → NoUnit bytes
-NoUnit-4 bytes one two three x y z p q r none unit left u =
-    let s = DigitAt-same bytes one (u.b ∷ u.c ∷ u.d ∷ left) x u.x p (first_digit bytes unit left u) in
-    let t = DigitAt-same one two (u.c ∷ u.d ∷ left) y u.y q (u.b, u.b_is, s.1) in
-    let v = DigitAt-same two three (u.d ∷ left) z u.z r (u.c, u.c_is, t.1) in
-    none u.w left (u.d, u.d_is, v.1)
-
-pub UnitAt-digits : (bytes one two three after : List ℕ) (x y z w : ℕ) → DigitAt bytes x one → DigitAt one y two → DigitAt two z three → DigitAt three w after
-    → ReadsUnit bytes (((x * 16 + y) * 16 + z) * 16 + w) after
-UnitAt-digits bytes one two three after x y z w p q r o = (
-  record {
-    a = p.0;
-    b = q.0;
-    c = r.0;
-    d = o.0;
-    x = x;
-    y = y;
-    z = z;
-    w = w;
-    a_is = p.1;
-    b_is = q.1;
-    c_is = r.1;
-    d_is = o.1;
-    unit_is = refl;
-    bytes_are = p.2 ∙ ap (λ l. p.0 ∷ l) (q.2 ∙ ap (λ l. q.0 ∷ l) (r.2 ∙ ap (λ l. r.0 ∷ l) o.2));
-  },
-  λ unit left u.
-      let s = DigitAt-same bytes one (u.b ∷ u.c ∷ u.d ∷ left) x u.x p (first_digit bytes unit left u) in
-      let t = DigitAt-same one two (u.c ∷ u.d ∷ left) y u.y q (u.b, u.b_is, s.1) in
-      let v = DigitAt-same two three (u.d ∷ left) z u.z r (u.c, u.c_is, t.1) in
-      let e = DigitAt-same three after left w u.w o (u.d, u.d_is, v.1) in
-      (u.unit_is ∙ rw (s.0, t.0, v.0, e.0) refl, sym e.1),
-)
+pub unit_same : (bytes : List ℕ) (u v : ℕ) (a b : List ℕ) → UnitAt bytes u a → UnitAt bytes v b → (u ≡ v) × (a ≡ b)
+unit_same bytes u v a b p q =
+    let s = DigitAt-same bytes (p.b ∷ p.c ∷ p.d ∷ a) (q.b ∷ q.c ∷ q.d ∷ b) p.x q.x (first_digit bytes u a p) (first_digit bytes v b q) in
+    let t = DigitAt-same (p.b ∷ p.c ∷ p.d ∷ a) (p.c ∷ p.d ∷ a) (q.c ∷ q.d ∷ b) p.y q.y (p.b, p.b_is, refl) (q.b, q.b_is, s.1) in
+    let w = DigitAt-same (p.c ∷ p.d ∷ a) (p.d ∷ a) (q.d ∷ b) p.z q.z (p.c, p.c_is, refl) (q.c, q.c_is, t.1) in
+    let e = DigitAt-same (p.d ∷ a) a b p.w q.w (p.d, p.d_is, refl) (q.d, q.d_is, w.1) in
+    (p.unit_is ∙ rw (s.0, t.0, w.0, e.0) (sym q.unit_is), e.1)

@@ -5,6 +5,7 @@ use Rattle.sx_tree.specs.Names.{AreDistinct}
 use Rattle.sx_tree.specs.Number.{IsNumber, IsDigit, IsMinus, IsInt}
 use Rattle.sx_tree.specs.Value.{Value, scalar, array, object, Values, Fields}
 use Rattle.sx_json.specs.Strings.{TextAt}
+use Rattle.sx_json.specs.Faults.{IsFirst}
 use Rattle.sx_json.specs.Grammar.{IsBlank, Led, ValueAt, ElementsAt, MembersAt, names_in}
 use Rattle.sx_json.proofs.StringShapes.{heads, nothing_there}
 
@@ -77,10 +78,6 @@ no_value_of_nothing (scalar (Bool false)) room left h = nothing_there 102 (97 �
 no_value_of_nothing (scalar Null) room left h = nothing_there 110 (117 ∷ 108 ∷ 108 ∷ left) h
 no_value_of_nothing (array vs) room left h = nothing_there 91 h.1 h.3
 no_value_of_nothing (object fs) room left h = nothing_there 123 h.1 h.3
-
--- Each value begins with one of these bytes.
-abbrev pub IsFirst : ℕ → Type 0
-IsFirst byte = (byte ≡ 34) ⊎ (((byte ≡ 45) ⊎ IsDigit byte) ⊎ ((byte ≡ 116) ⊎ ((byte ≡ 102) ⊎ ((byte ≡ 110) ⊎ ((byte ≡ 91) ⊎ (byte ≡ 123))))))
 
 pub IsFirst-First : (x : Value) (room byte : ℕ) (rest left : List ℕ) → First x room byte rest left → IsFirst byte
 IsFirst-First x room byte rest left (a_string c e b t) = inl b

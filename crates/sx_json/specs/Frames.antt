@@ -1,11 +1,10 @@
 -- What may follow where the reading of a text stands, so that the whole text spells a value: for the
 -- reader's own functions.
-use Rattle.std.specs.Prelude.{ℕ, zero, suc, ◌≡◌, ◌+◌, ◌<◌, ◌≤◌, ◌⊎◌, List, [], ◌∷◌, ◌++◌, length, reverse}
+use Rattle.std.specs.Prelude.{ℕ, zero, suc, ◌≡◌, ◌+◌, ◌<◌, ◌≤◌, List, [], ◌∷◌, length, reverse}
 use Rattle.sx_tree.specs.declared.json.Scalar.{Scalar}
 use Rattle.sx_tree.specs.Names.{AreDistinct}
-use Rattle.sx_tree.specs.Number.{IsDigit}
 use Rattle.sx_tree.specs.Value.{Value, scalar, array, object, Values, no_values, value_then, Fields, no_fields, field_then, value_of, values_of, fields_of}
-use Rattle.sx_json.specs.Grammar.{IsBlank, AreBlanks, Led, NameThen, ValueAt, ElementsAt, MoreElementsAt, MembersAt, MoreMembersAt, names_in}
+use Rattle.sx_json.specs.Grammar.{AreBlanks, IsSolid, BeginsOther, Led, NameThen, ValueAt, ElementsAt, MoreElementsAt, MembersAt, MoreMembersAt, names_in}
 use Rattle.sx_json.specs.declared.reader.Frame.{Frame}
 use Rattle.sx_json.specs.declared.reader.Frame.TheVariants.{Array, Member}
 use Rattle.sx_json.specs.declared.reader.Turn.{Turn}
@@ -61,21 +60,6 @@ Goes (turn.After x) frames room v rest = Close frames room (value_of x) v rest
 abbrev pub ReadsScalar : List ℕ → Scalar → List ℕ → Type 0
 ReadsScalar bytes s left = (frames : List Frame) (room : ℕ) (v : Value) → (Awaits frames room v bytes → Close frames room (scalar s) v left) × (Close frames room (scalar s) v left → Awaits frames room v bytes)
 
-abbrev pub NoValue : List ℕ → Type 0
-NoValue bytes = (frames : List Frame) (room : ℕ) (v : Value) → Awaits frames room v bytes → ⊥
-
--- the bytes do not begin with white space
-abbrev pub IsSolid : List ℕ → Type 0
-IsSolid bytes = (byte : ℕ) (rest : List ℕ) → bytes ≡ byte ∷ rest → IsBlank byte → ⊥
-
--- the bytes do not begin with this one
-abbrev pub BeginsOther : ℕ → List ℕ → Type 0
-BeginsOther byte bytes = (rest : List ℕ) → bytes ≡ byte ∷ rest → ⊥
-
--- the bytes are white space and the rest
-abbrev pub Skips : List ℕ → List ℕ → Type 0
-Skips bytes rest = (blanks : List ℕ) × AreBlanks blanks × (bytes ≡ blanks ++ rest)
-
 -- At a turn, with these frames, the innermost last: the bytes may follow in a text that spells v.
 abbrev pub Follows : Turn → List Frame → Value → List ℕ → Type 0
 Follows t frames v bytes = (room : ℕ) × (room + length frames ≡ 256) × Goes t (reverse frames) room v bytes
@@ -83,10 +67,6 @@ Follows t frames v bytes = (room : ℕ) × (room + length frames ≡ 256) × Goe
 -- One step changes nothing of what the text may spell.
 abbrev pub Steps : Turn → List Frame → List ℕ → Turn → List Frame → List ℕ → Type 0
 Steps t frames bytes t' frames' bytes' = (v : Value) → (Follows t frames v bytes → Follows t' frames' v bytes') × (Follows t' frames' v bytes' → Follows t frames v bytes)
-
--- The text spells nothing.
-abbrev pub Stuck : Turn → List Frame → List ℕ → Type 0
-Stuck t frames bytes = (v : Value) → Follows t frames v bytes → ⊥
 
 -- At most 256 nest, with the array or object that the turn is in.
 abbrev pub HasRoom : Turn → List Frame → Type 0
@@ -99,7 +79,3 @@ HasRoom (turn.After x) frames = length frames ≤ 256
 -- neither white space nor an opening bracket or brace begins the bytes
 abbrev pub BeginsScalar : List ℕ → Type 0
 BeginsScalar bytes = IsSolid bytes × BeginsOther 91 bytes × BeginsOther 123 bytes
-
--- a minus or a digit begins the bytes
-abbrev pub BeginsNumberAt : List ℕ → Type 0
-BeginsNumberAt bytes = (byte : ℕ) × (rest : List ℕ) × (bytes ≡ byte ∷ rest) × ((byte ≡ 45) ⊎ IsDigit byte)

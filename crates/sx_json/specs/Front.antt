@@ -8,7 +8,3 @@ IsStringFront text content used = (inside : List ℕ) × (left : List ℕ) × (t
 
 abbrev pub NoStringFront : List ℕ → Type 0
 NoStringFront text = (content : List ℕ) (used : ℕ) → IsStringFront text content used → ⊥
-
--- it is such a string, and the only one
-abbrev pub ReadsFront : List ℕ → List ℕ → ℕ → Type 0
-ReadsFront text content used = IsStringFront text content used × ((c : List ℕ) (u : ℕ) → IsStringFront text c u → (content ≡ c) × (used ≡ u))

@@ -4,7 +4,7 @@ use Rattle.std.specs.Prelude.{ℕ, suc, ◌≡◌, ◌≤◌, ◌⊎◌, List, [
 use Rattle.sx_tree.specs.declared.json.Scalar.{Scalar}
 use Rattle.sx_tree.specs.declared.json.Scalar.TheVariants.{Str, Number, Bool, Null}
 use Rattle.sx_tree.specs.Names.{AreDistinct}
-use Rattle.sx_tree.specs.Number.{IsNumber}
+use Rattle.sx_tree.specs.Number.{IsDigit, IsNumber}
 use Rattle.sx_tree.specs.Value.{Value, scalar, array, object, Values, no_values, value_then, Fields, no_fields, field_then}
 use Rattle.sx_json.specs.Strings.{TextAt}
 
@@ -15,6 +15,22 @@ IsBlank byte = (byte ≡ 32) ⊎ ((byte ≡ 9) ⊎ ((byte ≡ 10) ⊎ (byte ≡ 
 abbrev pub AreBlanks : List ℕ → Type 0
 AreBlanks [] = Unit {0}
 AreBlanks (byte ∷ bytes) = IsBlank byte × AreBlanks bytes
+
+-- the bytes do not begin with white space
+abbrev pub IsSolid : List ℕ → Type 0
+IsSolid bytes = (byte : ℕ) (rest : List ℕ) → bytes ≡ byte ∷ rest → IsBlank byte → ⊥
+
+-- the bytes do not begin with this one
+abbrev pub BeginsOther : ℕ → List ℕ → Type 0
+BeginsOther byte bytes = (rest : List ℕ) → bytes ≡ byte ∷ rest → ⊥
+
+-- a minus or a digit begins the bytes
+abbrev pub BeginsNumberAt : List ℕ → Type 0
+BeginsNumberAt bytes = (byte : ℕ) × (rest : List ℕ) × (bytes ≡ byte ∷ rest) × ((byte ≡ 45) ⊎ IsDigit byte)
+
+-- the bytes are white space and the rest
+abbrev pub Skips : List ℕ → List ℕ → Type 0
+Skips bytes rest = (blanks : List ℕ) × AreBlanks blanks × (bytes ≡ blanks ++ rest)
 
 -- white space, and then what P says
 abbrev pub Led : (List ℕ → Type 0) → List ℕ → Type 0

@@ -5,5 +5,8 @@ pub mod Piece
 pub mod Grammar
 pub mod Frames
 pub mod Outcome
+pub mod StringFaults
+pub mod Faults
+pub mod FaultFrames
 pub mod Front
 pub mod Limits

@@ -18,6 +18,13 @@ IsHexDigit byte digit =
     ((48 ≤ byte) × (byte ≤ 57) × (byte ≡ 48 + digit))
     ⊎ (((65 ≤ byte) × (byte ≤ 70) × (byte ≡ 55 + digit)) ⊎ ((97 ≤ byte) × (byte ≤ 102) × (byte ≡ 87 + digit)))
 
+-- a hexadecimal digit at the front of the bytes, and what is left
+abbrev pub DigitAt : List ℕ → ℕ → List ℕ → Type 0
+DigitAt bytes digit left = (byte : ℕ) × IsHexDigit byte digit × (bytes ≡ byte ∷ left)
+
+abbrev pub NoDigit : List ℕ → Type 0
+NoDigit bytes = (digit : ℕ) (left : List ℕ) → DigitAt bytes digit left → ⊥
+
 -- four hexadecimal digits, and the number that they are
 pub record UnitAt (bytes : List ℕ) (unit : ℕ) (left : List ℕ) : Type 0 where
   pub a : ℕ
@@ -40,6 +47,10 @@ IsHighSurrogate unit = (0xD800 ≤ unit) × (unit ≤ 0xDBFF)
 
 abbrev pub IsLowSurrogate : ℕ → Type 0
 IsLowSurrogate unit = (0xDC00 ≤ unit) × (unit ≤ 0xDFFF)
+
+-- an escape that is a low surrogate, at the front of the bytes
+abbrev pub LowAt : List ℕ → ℕ → List ℕ → Type 0
+LowAt bytes low left = (middle : List ℕ) × (bytes ≡ 92 ∷ 117 ∷ middle) × UnitAt middle low left × IsLowSurrogate low
 
 -- the character of a high and a low surrogate in a row
 abbrev pub pair_char : ℕ → ℕ → ℕ

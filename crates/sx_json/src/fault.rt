@@ -1,5 +1,6 @@
 //! Why bytes are no JSON text within the limits.
 ghost use Rattle.std.specs.Prelude.{◌≡◌};
+ghost use Rattle.sx_json.specs.StringFaults.{cut};
 ghost use Rattle.sx_json.specs.declared.fault.JsonFault.TheVariants.{OutOfMemory};
 
 use std::alloc::AllocError;
@@ -38,5 +39,16 @@ impl From<AllocError> for JsonFault {
 
     fn from(_error: AllocError) -> JsonFault {
         JsonFault::OutOfMemory
+    }
+}
+
+/// The fault of a text whose bytes are in UTF-8 up to this place and not there, where they have this fault
+/// up to there.
+pub(crate) fn at_cut(fault: JsonFault, valid: usize) -> JsonFault
+    ensures { result ≡ cut valid fault }
+{
+    match fault {
+        JsonFault::Ended => JsonFault::BadByte { at: valid as u64 },
+        other => other,
     }
 }

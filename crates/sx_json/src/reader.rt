@@ -1,13 +1,17 @@
 //! Reads a JSON text, token by token, with the open arrays and objects on a stack.
-ghost use Rattle.std.specs.Prelude.{◌≡◌, ◌<◌, ◌≤◌, ◌∷◌, ◌++◌, [], IfErr, IfOk, length};
+ghost use Rattle.std.specs.Prelude.{◌≡◌, ◌<◌, ◌≤◌, ◌∷◌, ◌++◌, ◌↔◌, [], ℕ, Contains, IfErr, IfOk, IsTrue, IsUtf8, MatchResult, length};
+ghost use Rattle.std.specs.Str.{IsValidUpTo};
 ghost use Rattle.sx_tree.specs.Names.{AreDistinct, names_of};
 ghost use Rattle.sx_tree.specs.Value.{Value, value_of};
-ghost use Rattle.sx_json.specs.Frames.{BeginsOther, Follows, HasRoom, IsSolid, Steps, Stuck};
-ghost use Rattle.sx_json.specs.Grammar.{Spells};
+ghost use Rattle.sx_json.specs.Frames.{Follows, HasRoom, Steps};
+ghost use Rattle.sx_json.specs.Grammar.{BeginsOther, IsSolid, Spells};
+ghost use Rattle.sx_json.specs.Faults.{Faults, TextFault};
+ghost use Rattle.sx_json.specs.FaultFrames.{FollowsFault, GoesOn};
+ghost use Rattle.sx_json.specs.declared.fault.JsonFault.TheVariants.{OutOfMemory};
 ghost use Rattle.sx_json.specs.Outcome.{IsOutcome, Reads};
-ghost use Rattle.sx_json.specs.Reading.{Refuses};
+ghost use Rattle.sx_json.specs.Reading.{Refuses, UnlessMemory};
 
-use crate::fault::JsonFault;
+use crate::fault::{JsonFault, at_cut};
 use crate::scalars::{behind, scalar_at, skip_blanks, unexpected};
 use crate::strings::{place, string_at};
 use sqlite_items::Items as Stack;
@@ -53,9 +57,11 @@ fn value_at<'a>(
 ) -> Result<(Turn, &'a [u8]), JsonFault>
     requires solid { IsSolid bytes.now }
     requires room { length frames.now ≤ 256 }
+    requires utf8 { IsUtf8 bytes.now }
     ensures room { IfOk result (λ p. HasRoom p.0 frames.now) }
     ensures ok { IfOk result (λ p. Steps Turn.Value frames.now bytes.now p.0 frames.now p.1.now) }
-    ensures err { IfErr result (Refuses (Stuck Turn.Value frames.now bytes.now)) }
+    ensures keeps { IfOk result (λ p. GoesOn end Turn.Value frames.now bytes.now p.0 frames.now p.1.now) }
+    ensures fault { IfErr result (UnlessMemory (FollowsFault end Turn.Value frames.now bytes.now)) }
 {
     let too_deep = JsonFault::TooDeep {
         at: place(end, bytes),
@@ -88,9 +94,11 @@ fn first_value<'a>(
 ) -> Result<(Turn, &'a [u8]), JsonFault>
     requires solid { IsSolid bytes.now }
     requires room { length frames.old < 256 }
+    requires utf8 { IsUtf8 bytes.now }
     ensures room { IfOk result (λ p. HasRoom p.0 frames.new) }
     ensures ok { IfOk result (λ p. Steps Turn.FirstValue frames.old bytes.now p.0 frames.new p.1.now) }
-    ensures err { IfErr result (Refuses (Stuck Turn.FirstValue frames.old bytes.now)) }
+    ensures memory { IfErr result (λ e. e ≡ OutOfMemory) }
+    ensures keeps { (end : ℕ) → IfOk result (λ p. GoesOn end Turn.FirstValue frames.old bytes.now p.0 frames.new p.1.now) }
 {
     let items = Items::new(alloc);
     match behind(bytes, b']') {
@@ -106,13 +114,25 @@ fn first_value<'a>(
 fn first_name<'a>(alloc: Global, frames: &Stack<Frame>, bytes: &'a [u8]) -> (Turn, &'a [u8])
     requires solid { IsSolid bytes.now }
     requires room { length frames.now < 256 }
+    requires utf8 { IsUtf8 bytes.now }
     ensures room { HasRoom result.0 frames.now }
     ensures ok { Steps Turn.FirstName frames.now bytes.now result.0 frames.now result.1.now }
+    ensures keeps { (end : ℕ) → GoesOn end Turn.FirstName frames.now bytes.now result.0 frames.now result.1.now }
 {
     let members = Members::new(alloc);
     match behind(bytes, b'}') {
         Some(after) => (Turn::After(Json::Object(members)), after),
         None => (Turn::Name(members), bytes),
+    }
+}
+
+/// Whether a member has the name.
+fn has_name(members: &Members, name: &Text) -> bool
+    ensures { IsTrue result ↔ Contains (names_of members.now) name.now }
+{
+    match members.find(name) {
+        Some(_) => true,
+        None => false,
     }
 }
 
@@ -126,9 +146,11 @@ fn name_at<'a>(
 ) -> Result<(Turn, &'a [u8]), JsonFault>
     requires solid { IsSolid bytes.now }
     requires room { length frames.old < 256 }
+    requires utf8 { IsUtf8 bytes.now }
     ensures room { IfOk result (λ p. HasRoom p.0 frames.new) }
     ensures ok { IfOk result (λ p. Steps (Turn.Name members) frames.old bytes.now p.0 frames.new p.1.now) }
-    ensures err { IfErr result (Refuses (Stuck (Turn.Name members) frames.old bytes.now)) }
+    ensures keeps { IfOk result (λ p. GoesOn end (Turn.Name members) frames.old bytes.now p.0 frames.new p.1.now) }
+    ensures fault { IfErr result (UnlessMemory (FollowsFault end (Turn.Name members) frames.old bytes.now)) }
 {
     let at = place(end, bytes);
     let inside = match behind(bytes, b'"') {
@@ -139,7 +161,7 @@ fn name_at<'a>(
         Ok(read) => read,
         Err(fault) => return Err(fault),
     };
-    if let Some(earlier) = members.find(&name) {
+    if has_name(&members, &name) {
         return Err(JsonFault::DuplicateName { at });
     }
     let colon = skip_blanks(after);
@@ -162,9 +184,11 @@ fn after_element<'a>(
 ) -> Result<(Turn, &'a [u8]), JsonFault>
     requires solid { IsSolid bytes.now }
     requires room { length frames.old < 256 }
+    requires utf8 { IsUtf8 bytes.now }
     ensures room { IfOk result (λ p. HasRoom p.0 frames.new) }
     ensures ok { IfOk result (λ p. Steps (Turn.After value) (frames.old ++ Frame.Array items ∷ []) bytes.now p.0 frames.new p.1.now) }
-    ensures err { IfErr result (Refuses (Stuck (Turn.After value) (frames.old ++ Frame.Array items ∷ []) bytes.now)) }
+    ensures keeps { IfOk result (λ p. GoesOn end (Turn.After value) (frames.old ++ Frame.Array items ∷ []) bytes.now p.0 frames.new p.1.now) }
+    ensures fault { IfErr result (UnlessMemory (FollowsFault end (Turn.After value) (frames.old ++ Frame.Array items ∷ []) bytes.now)) }
 {
     let mut longer = items;
     longer.push(value)?;
@@ -192,9 +216,11 @@ fn after_member<'a>(
 ) -> Result<(Turn, &'a [u8]), JsonFault>
     requires solid { IsSolid bytes.now }
     requires room { length frames.now < 256 }
+    requires utf8 { IsUtf8 bytes.now }
     ensures room { IfOk result (λ p. HasRoom p.0 frames.now) }
     ensures ok { IfOk result (λ p. Steps (Turn.After value) (frames.now ++ Frame.Member members name ∷ []) bytes.now p.0 frames.now p.1.now) }
-    ensures err { IfErr result (Refuses (Stuck (Turn.After value) (frames.now ++ Frame.Member members name ∷ []) bytes.now)) }
+    ensures keeps { IfOk result (λ p. GoesOn end (Turn.After value) (frames.now ++ Frame.Member members name ∷ []) bytes.now p.0 frames.now p.1.now) }
+    ensures fault { IfErr result (UnlessMemory (FollowsFault end (Turn.After value) (frames.now ++ Frame.Member members name ∷ []) bytes.now)) }
 {
     let mut longer = members;
     match longer.push(alloc, name, value) {
@@ -242,8 +268,9 @@ fn after_value<'a>(
 ) -> Result<Outcome<'a>, JsonFault>
     requires solid { IsSolid bytes.now }
     requires room { length frames.old ≤ 256 }
-    ensures ok { IfOk result (IsOutcome (Turn.After value) frames.old frames.new bytes.now) }
-    ensures err { IfErr result (Refuses (Stuck (Turn.After value) frames.old bytes.now)) }
+    requires utf8 { IsUtf8 bytes.now }
+    ensures ok { IfOk result (IsOutcome end (Turn.After value) frames.old frames.new bytes.now) }
+    ensures fault { IfErr result (UnlessMemory (FollowsFault end (Turn.After value) frames.old bytes.now)) }
 {
     match frames.pop() {
         None => match bytes.split_first() {
@@ -273,8 +300,9 @@ fn turn_at<'a>(
 ) -> Result<Outcome<'a>, JsonFault>
     requires solid { IsSolid bytes.now }
     requires room { HasRoom turn frames.old }
-    ensures ok { IfOk result (IsOutcome turn frames.old frames.new bytes.now) }
-    ensures err { IfErr result (Refuses (Stuck turn frames.old bytes.now)) }
+    requires utf8 { IsUtf8 bytes.now }
+    ensures ok { IfOk result (IsOutcome end turn frames.old frames.new bytes.now) }
+    ensures fault { IfErr result (UnlessMemory (FollowsFault end turn frames.old bytes.now)) }
 {
     match turn {
         Turn::Value => {
@@ -299,8 +327,9 @@ fn turn_at<'a>(
 
 /// The value of a text whose bytes are in UTF-8.
 fn read_front(alloc: Global, text: &[u8]) -> Result<Json, JsonFault>
+    requires utf8 { IsUtf8 text.now }
     ensures ok { IfOk result (Reads text.now) }
-    ensures err { IfErr result (Refuses (Stuck Turn.Value [] text.now)) }
+    ensures fault { IfErr result (UnlessMemory (TextFault (length text.now) text.now)) }
 {
     let mut frames = Stack::new(alloc);
     let mut turn = Turn::Value;
@@ -322,11 +351,13 @@ fn read_front(alloc: Global, text: &[u8]) -> Result<Json, JsonFault>
 
 /// The fault of bytes whose longest front in UTF-8 has this length.
 fn fault_before(alloc: Global, text: &[u8], valid: usize) -> JsonFault
-    requires { valid ≤ length text.now }
+    requires utf8 { IsUtf8 text.now → ⊥ }
+    requires valid { IsValidUpTo text.now valid }
+    ensures { UnlessMemory (Faults text.now) result }
 {
     match read_front(alloc, &text[..valid]) {
-        Ok(_) | Err(JsonFault::Ended) => JsonFault::BadByte { at: valid as u64 },
-        Err(fault) => fault,
+        Err(fault) => at_cut(fault, valid),
+        Ok(_) => JsonFault::BadByte { at: valid as u64 },
     }
 }
 
@@ -343,6 +374,10 @@ pub fn read(alloc: Global, text: &[u8]) -> Result<Json, JsonFault>
     ensures only { (v : Value) → Spells text.now v → IfOk result (λ json. value_of json ≡ v) }
     // Other texts are refused, and no others, unless memory runs out.
     ensures refused { IfErr result (Refuses ((v : Value) → Spells text.now v → ⊥)) }
+    // A refusal is the fault that is known at the least byte.
+    ensures fault { IfErr result (UnlessMemory (Faults text.now)) }
+    // A text with a fault is refused with it, and with no other.
+    ensures no_other { (f : JsonFault) → Faults text.now f → MatchResult result (λ _. ⊥) (UnlessMemory (λ e. e ≡ f)) }
 {
     match str::from_utf8(text) {
         Ok(_) => read_front(alloc, text),

@@ -1,8 +1,11 @@
 //! Reads a scalar: a string, a number or a literal name (RFC 8259 sections 3, 6 and 7).
-ghost use Rattle.std.specs.Prelude.{◌≡◌, ◌≢◌, ◌≤◌, ◌++◌, ◌∷◌, ◌↔◌, ℕ, List, IfErr, IfOk, IsTrue, MatchOption, length};
-ghost use Rattle.sx_json.specs.Frames.{BeginsNumberAt, BeginsOther, BeginsScalar, IsSolid, NoValue, ReadsScalar, Skips};
-ghost use Rattle.sx_json.specs.Grammar.{IsBlank};
-ghost use Rattle.sx_json.specs.Reading.{Refuses};
+ghost use Rattle.std.specs.Prelude.{◌≡◌, ◌≢◌, ◌≤◌, ◌++◌, ◌∷◌, ◌↔◌, ℕ, List, IfErr, IfOk, IsTrue, IsUtf8, MatchOption, length};
+ghost use Rattle.sx_json.specs.Frames.{BeginsScalar, ReadsScalar};
+ghost use Rattle.sx_json.specs.Grammar.{BeginsNumberAt, BeginsOther, IsBlank, IsSolid, Skips};
+ghost use Rattle.sx_json.specs.Reading.{Refuses, UnlessMemory};
+ghost use Rattle.sx_json.specs.Faults.{NumberFault, ScalarFault, WholeAt, WordFault};
+ghost use Rattle.sx_tree.specs.Value.{scalar};
+ghost use Rattle.sx_json.specs.StringFaults.{unexpected};
 
 use crate::fault::JsonFault;
 use crate::strings::{place, string_at};
@@ -48,9 +51,12 @@ pub(crate) fn scalar_at(
     end: usize,
     bytes: &[u8],
 ) -> Result<(Scalar, &[u8]), JsonFault>
-    requires { BeginsScalar bytes.now }
+    requires begins { BeginsScalar bytes.now }
+    requires utf8 { IsUtf8 bytes.now }
     ensures ok { IfOk result (λ p. ReadsScalar bytes.now p.0 p.1.now) }
-    ensures err { IfErr result (Refuses (NoValue bytes.now)) }
+    ensures utf8 { IfOk result (λ p. IsUtf8 p.1.now) }
+    ensures whole { IfOk result (λ p. (room : ℕ) → WholeAt (scalar p.0) room bytes.now p.1.now) }
+    ensures fault { IfErr result (UnlessMemory (ScalarFault end bytes.now)) }
 {
     let Some((first, inside)) = bytes.split_first() else {
         return Err(JsonFault::Ended);
@@ -82,7 +88,7 @@ pub(crate) fn scalar_at(
 /// The rest behind the word at the front of the bytes.
 fn word_at<'a>(end: usize, bytes: &'a [u8], word: &[u8]) -> Result<&'a [u8], JsonFault>
     ensures ok { IfOk result (λ left. bytes.now ≡ word.now ++ left.now) }
-    ensures err { IfErr result (λ _. (left : List ℕ) → bytes.now ≡ word.now ++ left → ⊥) }
+    ensures fault { IfErr result (WordFault end word.now bytes.now) }
 {
     let mut rest = bytes;
     for letter in word {
@@ -95,7 +101,9 @@ fn word_at<'a>(end: usize, bytes: &'a [u8], word: &[u8]) -> Result<&'a [u8], Jso
 }
 
 /// The fault where the first of the bytes is none that may stand there.
-pub(crate) fn unexpected(end: usize, bytes: &[u8]) -> JsonFault {
+pub(crate) fn unexpected(end: usize, bytes: &[u8]) -> JsonFault
+    ensures { result ≡ unexpected end bytes.now }
+{
     if bytes.is_empty() {
         JsonFault::Ended
     } else {
@@ -107,9 +115,12 @@ pub(crate) fn unexpected(end: usize, bytes: &[u8]) -> JsonFault {
 
 /// The number at the front of the bytes, and the rest.
 fn number_at(alloc: Global, end: usize, bytes: &[u8]) -> Result<(Scalar, &[u8]), JsonFault>
-    requires { BeginsNumberAt bytes.now }
+    requires begins { BeginsNumberAt bytes.now }
+    requires utf8 { IsUtf8 bytes.now }
     ensures ok { IfOk result (λ p. ReadsScalar bytes.now p.0 p.1.now) }
-    ensures err { IfErr result (Refuses (NoValue bytes.now)) }
+    ensures utf8 { IfOk result (λ p. IsUtf8 p.1.now) }
+    ensures whole { IfOk result (λ p. (room : ℕ) → WholeAt (scalar p.0) room bytes.now p.1.now) }
+    ensures fault { IfErr result (UnlessMemory (NumberFault end bytes.now)) }
 {
     let most = bytes.len().min(LITERAL_BYTES + 1);
     let front = number_front(&bytes[..most]);

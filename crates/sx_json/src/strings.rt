@@ -1,8 +1,10 @@
 //! Reads a string behind its opening quote (RFC 8259 section 7).
-ghost use Rattle.std.specs.Prelude.{◌≡◌, ◌≤◌, ◌<◌, ◌⊎◌, ℕ, [], ◌∷◌, ◌++◌, List, IfOk, IfErr, IfSome, MatchOption, OnOk, OnErr, encode_utf8, length};
-ghost use Rattle.sx_json.specs.Strings.{IsShortEscape, IsHexDigit, IsHighSurrogate, IsLowSurrogate, IsText, pair_char};
+ghost use Rattle.std.specs.Prelude.{◌≡◌, ◌≢◌, ◌≤◌, ◌<◌, ◌-◌, ◌⊎◌, ℕ, [], ◌∷◌, ◌++◌, List, IfOk, IfErr, IfSome, MatchOption, OnOk, OnErr, IsUtf8, encode_utf8, length};
+ghost use Rattle.sx_json.specs.Strings.{DigitAt, LowAt, NoDigit, UnitAt, IsShortEscape, IsHexDigit, IsHighSurrogate, IsLowSurrogate, IsText, pair_char};
 ghost use Rattle.sx_json.specs.Piece.{IsPiece};
-ghost use Rattle.sx_json.specs.Reading.{DigitAt, Leads, NoDigit, NoLow, NoPair, NoText, ReadsLow, ReadsPair, ReadsText, Refuses, NoString, NoUnit, ReadsUnit};
+ghost use Rattle.sx_json.specs.StringFaults.{unexpected, DigitsFault, EscapeAt, EscapeFault, LowEscapeFault, LowFault, PieceFault, StringFault, UnicodeAt, UnicodeFault};
+ghost use Rattle.sx_json.specs.declared.fault.JsonFault.TheVariants.{LoneSurrogate};
+ghost use Rattle.sx_json.specs.Reading.{ReadsText, Refuses, UnlessMemory};
 
 use crate::fault::JsonFault;
 use std::alloc::{AllocError, Global};
@@ -10,7 +12,9 @@ use sx_tree::bytes::Bytes;
 use sx_tree::text::{TEXT_BYTES, Text, TextFault};
 
 /// The place of the rest in a text with this end.
-pub(crate) fn place(end: usize, rest: &[u8]) -> u64 {
+pub(crate) fn place(end: usize, rest: &[u8]) -> u64
+    ensures { result ≡ end - length rest.now }
+{
     end.saturating_sub(rest.len()) as u64
 }
 
@@ -32,6 +36,7 @@ fn digit_at(end: usize, bytes: &[u8]) -> Result<(u32, &[u8]), JsonFault>
     ensures small { IfOk result (λ p. p.0 < 16) }
     ensures ok { IfOk result (λ p. DigitAt bytes.now p.0 p.1.now) }
     ensures err { IfErr result (λ _. NoDigit bytes.now) }
+    ensures fault { IfErr result (λ f. f ≡ unexpected end bytes.now) }
 {
     let Some((byte, left)) = bytes.split_first() else {
         return Err(JsonFault::Ended);
@@ -48,8 +53,8 @@ fn digit_at(end: usize, bytes: &[u8]) -> Result<(u32, &[u8]), JsonFault>
 fn unit_at(end: usize, bytes: &[u8]) -> Result<(u32, &[u8]), JsonFault>
     ensures small { IfOk result (λ p. p.0 < 65536) }
     ensures shorter { IfOk result (λ p. length p.1.now < length bytes.now) }
-    ensures ok { IfOk result (λ p. ReadsUnit bytes.now p.0 p.1.now) }
-    ensures err { IfErr result (λ _. NoUnit bytes.now) }
+    ensures ok { IfOk result (λ p. UnitAt bytes.now p.0 p.1.now) }
+    ensures fault { IfErr result (DigitsFault end 4 bytes.now) }
 {
     let (x, after_x) = digit_at(end, bytes)?;
     let (y, after_y) = digit_at(end, after_x)?;
@@ -62,7 +67,6 @@ fn unit_at(end: usize, bytes: &[u8]) -> Result<(u32, &[u8]), JsonFault>
 fn short_escape(letter: u8) -> Option<u8>
     ensures ascii { IfSome result (λ byte. byte < 128) }
     ensures value { MatchOption result ((byte : ℕ) → IsShortEscape letter byte → ⊥) (IsShortEscape letter) }
-    ensures same { IfSome result (λ byte. (other : ℕ) → IsShortEscape letter other → other ≡ byte) }
 {
     match letter {
         b'"' | b'\\' | b'/' => Some(letter),
@@ -80,8 +84,8 @@ fn short_escape(letter: u8) -> Option<u8>
 fn low_at(end: usize, start: u64, bytes: &[u8]) -> Result<(u32, &[u8]), JsonFault>
     ensures range { IfOk result (λ p. IsLowSurrogate p.0) }
     ensures shorter { IfOk result (λ p. length p.1.now < length bytes.now) }
-    ensures ok { IfOk result (λ p. ReadsLow bytes.now p.0 p.1.now) }
-    ensures err { IfErr result (λ _. NoLow bytes.now) }
+    ensures ok { IfOk result (λ p. LowAt bytes.now p.0 p.1.now) }
+    ensures fault { IfErr result (LowFault end start bytes.now) }
 {
     let Some((backslash, behind)) = bytes.split_first() else {
         return Err(JsonFault::Ended);
@@ -103,7 +107,10 @@ fn low_at(end: usize, start: u64, bytes: &[u8]) -> Result<(u32, &[u8]), JsonFaul
 }
 
 /// The fault where no escape stands behind a high surrogate. No string goes on with a control character.
-fn not_escape(end: usize, start: u64, bytes: &[u8], byte: u8) -> JsonFault {
+fn not_escape(end: usize, start: u64, bytes: &[u8], byte: u8) -> JsonFault
+    requires { byte ≢ 92 }
+    ensures { (after : List ℕ) → bytes.now ≡ byte ∷ after → LowFault end start bytes.now result }
+{
     if byte < 0x20 {
         JsonFault::BadByte {
             at: place(end, bytes),
@@ -114,7 +121,10 @@ fn not_escape(end: usize, start: u64, bytes: &[u8], byte: u8) -> JsonFault {
 }
 
 /// The fault where another escape than `u` stands behind a high surrogate, or none.
-fn not_unicode(end: usize, start: u64, bytes: &[u8], letter: u8) -> JsonFault {
+fn not_unicode(end: usize, start: u64, bytes: &[u8], letter: u8) -> JsonFault
+    requires { letter ≢ 117 }
+    ensures { (after : List ℕ) → bytes.now ≡ letter ∷ after → LowEscapeFault end start bytes.now result }
+{
     match short_escape(letter) {
         Some(_) => JsonFault::LoneSurrogate { at: start },
         None => JsonFault::BadByte {
@@ -142,8 +152,8 @@ fn surrogates_at(
 ) -> Result<(char, &[u8]), JsonFault>
     requires { (0xD800 ≤ unit) × (unit ≤ 0xDFFF) }
     ensures shorter { IfOk result (λ p. length p.1.now < length bytes.now) }
-    ensures ok { IfOk result (λ p. ReadsPair bytes.now unit p.0 p.1.now) }
-    ensures err { IfErr result (λ _. NoPair bytes.now unit) }
+    ensures ok { IfOk result (λ p. IsHighSurrogate unit × (low : ℕ) × LowAt bytes.now low p.1.now × (p.0 ≡ pair_char unit low)) }
+    ensures fault { IfErr result (λ f. (IsLowSurrogate unit × (f ≡ LoneSurrogate start)) ⊎ (IsHighSurrogate unit × LowFault end start bytes.now f)) }
 {
     if unit > 0xDBFF {
         return Err(JsonFault::LoneSurrogate { at: start });
@@ -156,8 +166,8 @@ fn surrogates_at(
 /// a high one, and the rest. The backslash stands at `start`.
 fn unicode_at(end: usize, start: u64, bytes: &[u8]) -> Result<(char, &[u8]), JsonFault>
     ensures shorter { IfOk result (λ p. length p.1.now < length bytes.now) }
-    ensures ok { IfOk result (λ p. Leads (92 ∷ 117 ∷ bytes.now) (encode_utf8 p.0) p.1.now) }
-    ensures err { IfErr result (λ _. NoString (92 ∷ 117 ∷ bytes.now)) }
+    ensures ok { IfOk result (λ p. UnicodeAt bytes.now p.0 p.1.now) }
+    ensures fault { IfErr result (UnicodeFault end start bytes.now) }
 {
     let (unit, left) = unit_at(end, bytes)?;
     match char::from_u32(unit) {
@@ -169,8 +179,8 @@ fn unicode_at(end: usize, start: u64, bytes: &[u8]) -> Result<(char, &[u8]), Jso
 /// The character of an escape behind its backslash, which stands at `start`, and the rest.
 fn escape_at(end: usize, start: u64, bytes: &[u8]) -> Result<(char, &[u8]), JsonFault>
     ensures shorter { IfOk result (λ p. length p.1.now < length bytes.now) }
-    ensures ok { IfOk result (λ p. Leads (92 ∷ bytes.now) (encode_utf8 p.0) p.1.now) }
-    ensures err { IfErr result (λ _. NoString (92 ∷ bytes.now)) }
+    ensures ok { IfOk result (λ p. EscapeAt bytes.now p.0 p.1.now) }
+    ensures fault { IfErr result (EscapeFault end start bytes.now) }
 {
     let Some((letter, left)) = bytes.split_first() else {
         return Err(JsonFault::Ended);
@@ -206,7 +216,7 @@ pub(crate) enum Piece<'a> {
 /// Takes a byte or an escape of a string, and adds what it stands for to the content.
 fn piece_at<'a>(end: usize, bytes: &'a [u8], content: &mut Bytes) -> Result<Piece<'a>, JsonFault>
     ensures ok { IfOk result (IsPiece bytes.now content.old content.new) }
-    ensures err { IfErr result (Refuses (NoString bytes.now)) }
+    ensures fault { IfErr result (UnlessMemory (PieceFault end bytes.now)) }
 {
     let Some((byte, after)) = bytes.split_first() else {
         return Err(JsonFault::Ended);
@@ -245,7 +255,8 @@ fn text_of(alloc: Global, start: u64, content: &Bytes) -> Result<Text, JsonFault
 pub(crate) fn string_at(alloc: Global, end: usize, bytes: &[u8]) -> Result<(Text, &[u8]), JsonFault>
     ensures shorter { IfOk result (λ p. length p.1.now < length bytes.now) }
     ensures ok { IfOk result (λ p. ReadsText bytes.now p.0 p.1.now) }
-    ensures err { IfErr result (Refuses (NoText bytes.now)) }
+    ensures utf8 { IsUtf8 bytes.now → IfOk result (λ p. IsUtf8 p.1.now) }
+    ensures fault { IsUtf8 bytes.now → IfErr result (UnlessMemory (StringFault end (end - length bytes.now - 1) 0 bytes.now)) }
 {
     let start = place(end, bytes).saturating_sub(1);
     let mut content = Bytes::new(alloc);

@@ -1,11 +1,11 @@
-use Rattle.std.proofs.Common.{◌≡◌, []}
+use Rattle.std.proofs.Common.{◌≡◌, inl, length, IsUtf8}
+use Rattle.sx_json.specs.Faults.{Faults, TextFault}
+use Rattle.sx_json.proofs.OneFault.{faults_one, spells_no_fault}
 use Rattle.sx_tree.specs.Value.{Value, value_of}
-use Rattle.sx_json.specs.Frames.{Stuck}
 use Rattle.sx_json.specs.Grammar.{Spells}
 use Rattle.sx_json.specs.Outcome.{Reads}
-use Rattle.sx_json.specs.declared.reader.Turn.TheVariants as turn
-use Rattle.sx_json.proofs.Results.{if_ok_map, if_refuses_map}
-use Rattle.sx_json.proofs.Texts.{Spells-Follows}
+use Rattle.sx_json.proofs.Results.{if_ok_map, no_other, refused_by, unless_map}
+use Rattle.sx_json.proofs.Texts.{Spells-Follows, Follows-Spells}
 use Rattle.sx_json.proofs.reader.read.Goals as goal
 
 pub returns-in-Ok-clause-only : goal.returns-in-Ok-clause-only
@@ -14,4 +14,15 @@ returns-in-Ok-clause-only c = λ v s.
 
 pub returns-in-Ok-clause-refused : goal.returns-in-Ok-clause-refused
 returns-in-Ok-clause-refused c =
-    if_refuses_map (Stuck turn.Value [] c.args.text.now) ((v : Value) → Spells c.args.text.now v → ⊥) c.read_front.result (λ stuck v s. stuck v (Spells-Follows c.args.text.now v s)) c.read_front.ensures.err
+    let text = c.args.text.now in
+    refused_by (TextFault (length text) text) ((v : Value) → Spells text v → ⊥) c.read_front.result (λ f h v s. spells_no_fault text v f s (inl (c.in-Ok.ensures.cases.1, h))) c.read_front.ensures.fault
+
+pub returns-in-Ok-clause-no_other : goal.returns-in-Ok-clause-no_other
+returns-in-Ok-clause-no_other c = λ f h.
+    let text = c.args.text.now in
+    let utf8 : IsUtf8 text = c.in-Ok.ensures.cases.1 in
+    no_other (Reads text) (TextFault (length text) text) c.read_front.result f (λ x r. spells_no_fault text (value_of x) f (Follows-Spells text (value_of x) utf8 r.0) h) (λ g k. faults_one text g f (inl (utf8, k)) h) c.read_front.ensures.ok c.read_front.ensures.fault
+
+pub returns-in-Err-clause-no_other : goal.returns-in-Err-clause-no_other
+returns-in-Err-clause-no_other c = λ f h.
+    unless_map (Faults c.args.text.now) (λ e. e ≡ f) c.fault_before.result (λ k. faults_one c.args.text.now c.fault_before.result f k h) c.fault_before.ensures

@@ -1,33 +1,57 @@
-use Rattle.std.proofs.Common.{◌≡◌, ◌∙◌, take, arith, true, rules}
-use Rattle.sx_json.proofs.Results.{refuses_all}
+use Rattle.std.proofs.Common.{◌≡◌, ◌∙◌, ap, inl, inr, sym, take, true, rules}
+use Rattle.std.proofs.lemmas.List.{take-append-drop}
+use Rattle.sx_tree.specs.Number.{IsNumber}
+use Rattle.sx_json.specs.StringFaults.{unexpected}
+use Rattle.sx_json.specs.declared.fault.JsonFault.TheVariants.{NumberTooLong}
+use Rattle.sx_json.proofs.FaultScalars.{longest_of_all, number_long, number_ends, number_keeps}
 use Rattle.sx_json.proofs.ScalarReads.{number_fits, number_again, number_is_whole}
 use Rattle.sx_json.proofs.scalars.number_at.Goals as goal
-
-pub returns-then-front-gt-LITERAL_BYTES-clause-err : goal.returns-then-front-gt-LITERAL_BYTES-clause-err
-returns-then-front-gt-LITERAL_BYTES-clause-err c = λ frames room v h.
-    let n = number_fits c.args.bytes.now c.min-most.result c.number_front-front.result.len c.requires c.min-most.ensures c.number_front-front.ensures.longest frames room v h in
-    omega (arith, n.1, c.if-front-gt-LITERAL_BYTES.true)
-
-pub returns-then-not-front-clause-err : goal.returns-then-not-front-clause-err
-returns-then-not-front-clause-err c = refuses_all _ c.unexpected.result (λ frames room v h.
-    let front = c.number_front-front in
-    let n = number_fits c.args.bytes.now c.min-most.result front.result.len c.requires c.min-most.ensures front.ensures.longest frames room v h in
-    let yes : front.result.is_number ≡ true = front.ensures.number.1 (number_is_whole c.args.bytes.now c.min-most.result front.result.len front.ensures.longest n.0) in
-    search (rules, c.if-not-front.true, yes))
 
 pub returns-in-Ok-clause-ok : goal.returns-in-Ok-clause-ok
 returns-in-Ok-clause-ok c = λ frames room v.
     let front = c.number_front-front in
     let literal : c.in-Ok.literal ≡ take front.result.len c.args.bytes.now = c.in-Ok.ensures.same ∙ c.split_at.ensures.front in (
       λ h.
-          let n = number_fits c.args.bytes.now c.min-most.result front.result.len c.requires c.min-most.ensures front.ensures.longest frames room v h in
+          let n = number_fits c.args.bytes.now c.min-most.result front.result.len c.requires.begins c.min-most.ensures front.ensures.longest frames room v h in
           rw (literal, c.split_at.ensures.back) n.2,
       λ h.
           number_again c.args.bytes.now front.result.len frames room v (rw c.split_at.ensures.front at c.in-Ok.ensures.number) (rw c.split_at.ensures.front at c.in-Ok.ensures.short) (rw (literal, c.split_at.ensures.back) at h),
     )
 
-pub returns-in-Err-Bad-clause-err : goal.returns-in-Err-Bad-clause-err
-returns-in-Err-Bad-clause-err c = refuses_all _ c.unexpected-in-Err-Bad.result (λ frames room v h.
-    let n = number_fits c.args.bytes.now c.min-most.result c.number_front-front.result.len c.requires c.min-most.ensures c.number_front-front.ensures.longest frames room v h in
+pub returns-then-front-gt-LITERAL_BYTES-clause-fault : goal.returns-then-front-gt-LITERAL_BYTES-clause-fault
+returns-then-front-gt-LITERAL_BYTES-clause-fault c =
+    let l = number_long c.args.bytes.now c.min-most.result c.number_front-front.result.len c.min-most.ensures c.number_front-front.ensures.longest c.if-front-gt-LITERAL_BYTES.true in
+    inr (inl (l.0, l.1, ap NumberTooLong c.place.ensures))
+
+pub returns-then-not-front-clause-fault : goal.returns-then-not-front-clause-fault
+returns-then-not-front-clause-fault c =
+    let front = c.number_front-front in
+    let len = front.result.len in
+    let none : IsNumber (take len c.args.bytes.now) → ⊥
+    = λ n.
+    let yes : front.result.is_number ≡ true = front.ensures.number.1 (number_is_whole c.args.bytes.now c.min-most.result len front.ensures.longest n) in
+    search (rules, c.if-not-front.true, yes) in
+    inr
+    (inr (len, c.if-front-gt-LITERAL_BYTES.false, longest_of_all c.args.bytes.now c.min-most.result len c.min-most.ensures front.ensures.longest c.if-front-gt-LITERAL_BYTES.false, none, c.unexpected.ensures ∙ ap (unexpected c.args.end) c.split_at.ensures.back))
+
+pub returns-in-Ok-clause-utf8 : goal.returns-in-Ok-clause-utf8
+returns-in-Ok-clause-utf8 c =
+    rw c.split_at.ensures.back (number_keeps c.args.bytes.now c.number_front-front.result.len (rw c.split_at.ensures.front at c.in-Ok.ensures.number) c.requires.utf8)
+
+pub returns-in-Ok-clause-whole : goal.returns-in-Ok-clause-whole
+returns-in-Ok-clause-whole c = λ room.
+    let front = c.number_front-front in
+    let len = front.result.len in
+    let literal : c.in-Ok.literal ≡ take len c.args.bytes.now = c.in-Ok.ensures.same ∙ c.split_at.ensures.front in
+    let longest = longest_of_all c.args.bytes.now c.min-most.result len c.min-most.ensures front.ensures.longest c.if-front-gt-LITERAL_BYTES.false in
+    rw (literal, c.split_at.ensures.back)
+    ((rw c.split_at.ensures.front at c.in-Ok.ensures.number, rw c.split_at.ensures.front at c.in-Ok.ensures.short, sym (take-append-drop len c.args.bytes.now)), number_ends c.args.bytes.now len longest)
+
+pub returns-in-Err-Bad-clause-fault : goal.returns-in-Err-Bad-clause-fault
+returns-in-Err-Bad-clause-fault c =
+    let front = c.number_front-front in
+    let len = front.result.len in
     let explained = rw c.in-Err-Bad.field-0-is at c.in-Err-Bad.ensures.fault in
-    explained.1 (rw c.split_at.ensures.front n.0))
+    let none : IsNumber (take len c.args.bytes.now) → ⊥ = λ n. explained.1 (rw c.split_at.ensures.front n) in
+    inr
+    (inr (len, c.if-front-gt-LITERAL_BYTES.false, longest_of_all c.args.bytes.now c.min-most.result len c.min-most.ensures front.ensures.longest c.if-front-gt-LITERAL_BYTES.false, none, c.unexpected-in-Err-Bad.ensures ∙ ap (unexpected c.args.end) c.split_at.ensures.back))

@@ -1,31 +1,12 @@
-use Rattle.std.proofs.Common.{inl, inr, arith}
+use Rattle.std.proofs.Common.{◌≡◌, ◌∙◌, ◌∷◌, ap, subst, inl, inr, arith, IsUtf8}
+use Rattle.sx_json.specs.Faults.{ScalarFault}
+use Rattle.sx_json.specs.StringFaults.{QuotedFault}
+use Rattle.sx_json.proofs.FaultScalars.{true_keeps, false_keeps, null_keeps}
+use Rattle.sx_json.proofs.StringTexts.{quoted_fault, utf8_behind}
 use Rattle.std.proofs.lemmas.Result.{err_from_is_err_and}
-use Rattle.sx_json.specs.Frames.{NoValue}
-use Rattle.sx_json.specs.Reading.{NoText}
-use Rattle.sx_json.proofs.Results.{if_err_refuses, refuses_map}
-use Rattle.sx_json.proofs.ScalarReads.{string_reads, string_none, true_reads, true_none, false_reads, false_none, null_reads, null_none, nothing_else, nothing_at_end}
+use Rattle.sx_json.proofs.Results.{unless_map}
+use Rattle.sx_json.proofs.ScalarReads.{string_reads, true_reads, false_reads, null_reads}
 use Rattle.sx_json.proofs.scalars.scalar_at.Goals as goal
-use Rattle.sx_json.proofs.scalars.scalar_at.Goals.{in_default-first-via-then-first-lt48, in_default-first-via-else-first-lt48+else-first-lt58}
-
-pub returns-in_default-clause-err : goal.returns-in_default-clause-err
-returns-in_default-clause-err c = nothing_at_end c.args.bytes.now c.in_default.ensures.cases
-
-pub returns-in_err-text-in-34-clause-err : goal.returns-in_err-text-in-34-clause-err
-returns-in_err-text-in-34-clause-err c =
-    let p = err_from_is_err_and c.from_residual.result c.from_residual.ensures.1 in
-    rw (p.1, p.2) (refuses_map (NoText c.in-Some.inside.now) (NoValue c.args.bytes.now) _ (string_none c.args.bytes.now c.in-Some.inside.now c.in-Some.first.now c.in-Some.ensures.cases.0 c.in-34.is) c.in_err-text-in-34.ensures.err)
-
-pub returns-in_err-left-in-116-clause-err : goal.returns-in_err-left-in-116-clause-err
-returns-in_err-left-in-116-clause-err c =
-    if_err_refuses (NoValue c.args.bytes.now) c.from_residual-in_err-left-in-116.result (true_none c.args.bytes.now c.in-Some.inside.now c.in-Some.first.now c.in-Some.ensures.cases.0 c.in-116.is c.in_err-left-in-116.ensures.err)
-
-pub returns-in_err-left-in-102-clause-err : goal.returns-in_err-left-in-102-clause-err
-returns-in_err-left-in-102-clause-err c =
-    if_err_refuses (NoValue c.args.bytes.now) c.from_residual-in_err-left-in-102.result (false_none c.args.bytes.now c.in-Some.inside.now c.in-Some.first.now c.in-Some.ensures.cases.0 c.in-102.is c.in_err-left-in-102.ensures.err)
-
-pub returns-in_err-left-in-110-clause-err : goal.returns-in_err-left-in-110-clause-err
-returns-in_err-left-in-110-clause-err c =
-    if_err_refuses (NoValue c.args.bytes.now) c.from_residual-in_err-left-in-110.result (null_none c.args.bytes.now c.in-Some.inside.now c.in-Some.first.now c.in-Some.ensures.cases.0 c.in-110.is c.in_err-left-in-110.ensures.err)
 
 pub returns-in_ok-text-in-34-clause-ok : goal.returns-in_ok-text-in-34-clause-ok
 returns-in_ok-text-in-34-clause-ok c = string_reads c.args.bytes.now c.in-Some.inside.now c.in_ok-text-in-34.text c.in_ok-text-in-34.left.now c.in-Some.first.now c.in-Some.ensures.cases.0 c.in-34.is c.in_ok-text-in-34.ensures.ok
@@ -39,11 +20,23 @@ returns-in_ok-left-in-102-clause-ok c = false_reads c.args.bytes.now c.in-Some.i
 pub returns-in_ok-left-in-110-clause-ok : goal.returns-in_ok-left-in-110-clause-ok
 returns-in_ok-left-in-110-clause-ok c = null_reads c.args.bytes.now c.in-Some.inside.now c.in_ok-left-in-110.left.now c.in-Some.first.now c.in-Some.ensures.cases.0 c.in-110.is c.in_ok-left-in-110.ensures.ok
 
-pub returns-in_default-first-clause-err : goal.returns-in_default-first-clause-err
-returns-in_default-first-clause-err c =
-    elim c.in_default-first.branch [
-      | in_default-first-via-then-first-lt48 w ↦ nothing_else c.args.bytes.now c.in-Some.inside.now c.in-Some.first.now c.in-Some.ensures.cases.0 c.requires
-          (λ e. omega (arith, e)) (λ s. elim s [ inl e ↦ omega (arith, e) | inr d ↦ omega (arith, d.0) ]) (λ e. omega (arith, e)) (λ e. omega (arith, e)) (λ e. omega (arith, e))
-      | in_default-first-via-else-first-lt48+else-first-lt58 w ↦ nothing_else c.args.bytes.now c.in-Some.inside.now c.in-Some.first.now c.in-Some.ensures.cases.0 c.requires
-          (λ e. omega (arith, e)) (λ s. elim s [ inl e ↦ omega (arith, e) | inr d ↦ omega (arith, d.1) ]) (λ e. omega (arith, e)) (λ e. omega (arith, e)) (λ e. omega (arith, e))
-    ]
+pub returns-in_err-text-in-34-clause-fault : goal.returns-in_err-text-in-34-clause-fault
+returns-in_err-text-in-34-clause-fault c =
+    let p = err_from_is_err_and c.from_residual.result c.from_residual.ensures.1 in
+    let is : c.args.bytes.now ≡ 34 ∷ c.in-Some.inside.now = c.in-Some.ensures.cases.0 ∙ ap (λ b. b ∷ c.in-Some.inside.now) c.in-34.is in
+    rw (p.1, p.2)
+    (unless_map (QuotedFault c.args.end c.args.bytes.now) (ScalarFault c.args.end c.args.bytes.now) _ (λ h. inr (inl h)) (quoted_fault c.args.end c.args.bytes.now c.in-Some.inside.now _ is (c.in_err-text-in-34.ensures.fault (utf8_behind 34 c.args.bytes.now c.in-Some.inside.now (omega arith) is c.requires.utf8))))
+
+pub returns-in_ok-text-in-34-clause-utf8 : goal.returns-in_ok-text-in-34-clause-utf8
+returns-in_ok-text-in-34-clause-utf8 c =
+    let is : c.args.bytes.now ≡ 34 ∷ c.in-Some.inside.now = c.in-Some.ensures.cases.0 ∙ ap (λ b. b ∷ c.in-Some.inside.now) c.in-34.is in
+    c.in_ok-text-in-34.ensures.utf8 (utf8_behind 34 c.args.bytes.now c.in-Some.inside.now (omega arith) is c.requires.utf8)
+
+pub returns-in_ok-left-in-116-clause-utf8 : goal.returns-in_ok-left-in-116-clause-utf8
+returns-in_ok-left-in-116-clause-utf8 c = true_keeps c.in_ok-left-in-116.left.now (subst IsUtf8 c.in_ok-left-in-116.ensures.ok c.requires.utf8)
+
+pub returns-in_ok-left-in-102-clause-utf8 : goal.returns-in_ok-left-in-102-clause-utf8
+returns-in_ok-left-in-102-clause-utf8 c = false_keeps c.in_ok-left-in-102.left.now (subst IsUtf8 c.in_ok-left-in-102.ensures.ok c.requires.utf8)
+
+pub returns-in_ok-left-in-110-clause-utf8 : goal.returns-in_ok-left-in-110-clause-utf8
+returns-in_ok-left-in-110-clause-utf8 c = null_keeps c.in_ok-left-in-110.left.now (subst IsUtf8 c.in_ok-left-in-110.ensures.ok c.requires.utf8)

@@ -1,26 +1,17 @@
-use Rattle.std.proofs.Common.{◌≡◌, ◌∷◌, ◌∙◌, arith}
-use Rattle.sx_json.proofs.Units.{if_err}
-use Rattle.sx_json.proofs.StringShapes.{low_from, NoLow-unit, NoLow-range}
+use Rattle.std.proofs.Common.{◌≡◌, ◌∷◌, ◌∙◌, inl, inr, refl, sym, subst}
+use Rattle.std.proofs.lemmas.Result.{err_from_is_err_and}
+use Rattle.sx_json.specs.StringFaults.{LowFault}
 use Rattle.sx_json.proofs.strings.low_at.Goals as goal
-use Rattle.sx_json.proofs.strings.low_at.Goals.{then-low-lt56320-via-then-low-lt56320, then-low-lt56320-via-else-low-lt56320+then-low-gt57343}
-
-pub returns-in_err-low-clause-err : goal.returns-in_err-low-clause-err
-returns-in_err-low-clause-err c =
-    let is : c.args.bytes.now ≡ 92 ∷ 117 ∷ c.in-Some-split_first.middle.now
-    = c.in-Some.ensures.cases.0 ∙ rw (c.if-backslash-ne92.false, c.in-Some-split_first.ensures.cases.0, c.if-letter-ne117.false) in
-    if_err c.from_residual.result (NoLow-unit _ _ is c.in_err-low.ensures.err)
-
-pub returns-then-low-lt56320-clause-err : goal.returns-then-low-lt56320-clause-err
-returns-then-low-lt56320-clause-err c =
-    let is : c.args.bytes.now ≡ 92 ∷ 117 ∷ c.in-Some-split_first.middle.now
-    = c.in-Some.ensures.cases.0 ∙ rw (c.if-backslash-ne92.false, c.in-Some-split_first.ensures.cases.0, c.if-letter-ne117.false) in
-    elim c.then-low-lt56320.branch [
-      | then-low-lt56320-via-then-low-lt56320 w ↦ NoLow-range _ _ _ _ is c.in_ok-low.ensures.ok (λ r. omega (arith, r.0, w.if-low-lt56320.true))
-      | then-low-lt56320-via-else-low-lt56320+then-low-gt57343 w ↦ NoLow-range _ _ _ _ is c.in_ok-low.ensures.ok (λ r. omega (arith, r.1, w.if-low-gt57343.true))
-    ]
 
 pub returns-clause-ok : goal.returns-clause-ok
 returns-clause-ok c =
     let is : c.args.bytes.now ≡ 92 ∷ 117 ∷ c.in-Some-split_first.middle.now
     = c.in-Some.ensures.cases.0 ∙ rw (c.if-backslash-ne92.false, c.in-Some-split_first.ensures.cases.0, c.if-letter-ne117.false) in
-    low_from _ _ _ _ is c.in_ok-low.ensures.ok (c.if-low-lt56320.false, c.if-low-gt57343.false)
+    (c.in-Some-split_first.middle.now, is, c.in_ok-low.ensures.ok, (c.if-low-lt56320.false, c.if-low-gt57343.false))
+
+pub returns-in_err-low-clause-fault : goal.returns-in_err-low-clause-fault
+returns-in_err-low-clause-fault c =
+    let is : c.args.bytes.now ≡ 92 ∷ 117 ∷ c.in-Some-split_first.middle.now
+    = c.in-Some.ensures.cases.0 ∙ rw (c.if-backslash-ne92.false, c.in-Some-split_first.ensures.cases.0, c.if-letter-ne117.false) in
+    let p = err_from_is_err_and c.from_residual.result c.from_residual.ensures.1 in
+    rw (p.1, p.2) (subst (λ b. LowFault c.args.end c.args.start b c.in_err-low.field-0.0) (sym is) (inr (inr (refl, inr (inr (inl (refl, c.in_err-low.ensures.fault)))))))

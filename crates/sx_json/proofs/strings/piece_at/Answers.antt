@@ -1,9 +1,11 @@
-use Rattle.std.proofs.Common.{◌∷◌, [], arith}
+use Rattle.std.proofs.Common.{◌∷◌, [], inl, refl, sym, subst, arith}
+use Rattle.sx_json.specs.StringFaults.{PieceAt}
 use Rattle.sx_json.specs.Strings.{IsPlain}
-use Rattle.sx_json.proofs.StringShapes.{Leads-plain}
 use Rattle.sx_json.proofs.strings.piece_at.Goals as goal
 
 pub returns-in_ok-push-in_default-byte-clause-ok : goal.returns-in_ok-push-in_default-byte-clause-ok
 returns-in_ok-push-in_default-byte-clause-ok c =
-    let plain : IsPlain c.in-Some.byte.now = (omega arith, λ e. omega (arith, e), λ e. omega (arith, e)) in
-    (c.in-Some.byte.now ∷ [], c.in_ok-push-in_default-byte.ensures.ok, Leads-plain _ _ _ c.in-Some.ensures.cases.0 plain, omega (arith, c.in-Some.ensures.cases.1))
+    let byte = c.in-Some.byte.now in
+    let plain : IsPlain byte = (omega arith, λ e. omega (arith, e), λ e. omega (arith, e)) in
+    let is = c.in-Some.ensures.cases.0 in
+    (byte ∷ [], c.in_ok-push-in_default-byte.ensures.ok, subst (λ b. PieceAt b (byte ∷ []) c.in-Some.after.now) (sym is) (inl (plain, refl, refl)), omega (arith, c.in-Some.ensures.cases.1))
