@@ -26,7 +26,7 @@ pub(crate) const NONE: Failing<'static> = Failing {
 pub(crate) struct Ran {
     pub(crate) status: Status,
     pub(crate) output: Vec<u8>,
-    pub(crate) volume: Vec<u8>,
+    pub(crate) volume: MemVolume,
 }
 
 /// Runs `live` over a volume with these bytes, on a script that comes in pieces of at most so many bytes.
@@ -79,7 +79,7 @@ pub(crate) fn run_words<R: Wait, C: Clock>(
     Ok(Ran {
         status,
         output: sink.bytes().to_vec(alloc)?,
-        volume: volume.as_slice().to_vec(alloc)?,
+        volume,
     })
 }
 
