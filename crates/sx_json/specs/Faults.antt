@@ -1,5 +1,7 @@
--- The fault of a text: read from left to right, what is first wrong in it, construct by construct. The end is
--- the length of the text, of which the bytes are a rest: their place is the end less their length.
+-- The fault of a text: read from left to right, what is first wrong in it, construct by construct, and where
+-- (RFC 8259, by the productions of Grammar). The end is the length of the text, of which the bytes are a rest:
+-- their place is the end less their length. Of the bytes 34 is a quote, 44 a comma, 58 a colon, 91 and 93 are
+-- brackets, 123 and 125 braces.
 use Rattle.std.specs.Prelude.{ℕ, zero, suc, ◌≡◌, ◌≤◌, ◌<◌, ◌-◌, ◌⊎◌, List, [], ◌∷◌, ◌++◌, length, take, drop, get_or, codes, Contains, IsUtf8}
 use Rattle.std.specs.Str.{IsValidUpTo}
 use Rattle.sx_tree.specs.declared.json.Scalar.TheVariants.{Number}
@@ -30,12 +32,13 @@ WordFault end word bytes f = (count : ℕ) × (rest : List ℕ) × (count < leng
 abbrev pub NameFault : ℕ → List ℕ → JsonFault → Type 0
 NameFault end bytes f = (letter : ℕ) × (more : List ℕ) × (inside : List ℕ) × IsLiteralName (letter ∷ more) × (bytes ≡ letter ∷ inside) × WordFault end (letter ∷ more) bytes f
 
--- A number of which more than 64 bytes stand there, or no whole one.
+-- A number of which more than 64 bytes stand there, or which is not whole where no number goes on.
 abbrev pub NumberFault : ℕ → List ℕ → JsonFault → Type 0
 NumberFault end bytes f =
     ((65 ≤ length bytes) × BeginsNumber (take 65 bytes) × (f ≡ NumberTooLong (end - length bytes)))
     ⊎ ((len : ℕ) × (len ≤ 64) × IsLongestFront bytes len × (IsNumber (take len bytes) → ⊥) × (f ≡ unexpected end (drop len bytes)))
 
+-- In a scalar, or at a byte with which no value begins.
 abbrev pub ScalarFault : ℕ → List ℕ → JsonFault → Type 0
 ScalarFault end bytes f =
     (((byte : ℕ) (rest : List ℕ) → bytes ≡ byte ∷ rest → IsFirst byte → ⊥) × (f ≡ unexpected end bytes))
@@ -47,6 +50,7 @@ abbrev pub Ends : Value → List ℕ → Type 0
 Ends (scalar (Number literal)) after = (byte : ℕ) (rest : List ℕ) → after ≡ byte ∷ rest → BeginsNumber (literal ++ byte ∷ []) → ⊥
 Ends v after = Unit {0}
 
+-- The value stands there, up to its end.
 abbrev pub WholeAt : Value → ℕ → List ℕ → List ℕ → Type 0
 WholeAt v room bytes after = ValueAt v room bytes after × Ends v after
 
@@ -74,7 +78,8 @@ MemberNameFault end names bytes f =
     ⊎ ((name : List ℕ) × (inside : List ℕ) × (after : List ℕ) × (bytes ≡ 34 ∷ inside) × TextAt inside name after
     × ((Contains names name × (f ≡ DuplicateName (end - length bytes))) ⊎ ((Contains names name → ⊥) × Next (λ b. BeginsOther 58 b × (f ≡ unexpected end b)) after)))
 
--- In an object with these names where a member is to come, as above.
+-- In an object with these names where a member is to come, with at most this many whole members before what
+-- is wrong.
 abbrev pub MembersFault : ℕ → ℕ → (List ℕ → JsonFault → Type 0) → ℕ → List (List ℕ) → List ℕ → JsonFault → Type 0
 MembersFault end room P zero names bytes f = MemberNameFault end names bytes f ⊎ ((name : List ℕ) × NewName names name (λ d. P d f) bytes)
 MembersFault end room P (suc count) names bytes f =
@@ -95,8 +100,8 @@ TextFault end text f =
     Next (λ b. ValueFault end 256 b f
     ⊎ ((v : Value) × (after : List ℕ) × WholeAt v 256 b after × Next (λ c. (byte : ℕ) × (rest : List ℕ) × (c ≡ byte ∷ rest) × (f ≡ unexpected end c)) after)) text
 
--- Up to the first bytes that are not in UTF-8 a text is read as if it ended there, and it goes on with none of
--- them.
+-- The fault of a text. Up to the first bytes that are not in UTF-8 it is read as if it ended there, and it
+-- goes on with none of them.
 abbrev pub Faults : List ℕ → JsonFault → Type 0
 Faults text f =
     (IsUtf8 text × TextFault (length text) text f)
