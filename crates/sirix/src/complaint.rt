@@ -19,9 +19,11 @@ impl fmt::Display for Complaint {
             Status::ReadFault => f.write_str("sirix: reading failed"),
             Status::WriteFault => f.write_str("sirix: writing failed"),
             Status::VolumeFault => f.write_str("sirix: the volume failed"),
-            Status::NotOurs { first } => {
-                write!(f, "sirix: not a volume of this program, first byte {first}")
-            }
+            Status::Damaged(damage) => write!(
+                f,
+                "sirix: damaged at {}, rule {}",
+                damage.place, damage.rule
+            ),
             Status::OutOfMemory => f.write_str("sirix: out of memory"),
         }
     }
@@ -31,9 +33,16 @@ impl fmt::Display for Complaint {
 mod tests {
     use super::*;
     use std::test::Fail;
+    use sx_bytes::Damage;
 
     #[test]
     fn each_status_has_its_line(rt: HostRuntime) -> Result<(), Fail> {
+        let damage = Damage {
+            place: 1,
+            rule: 6,
+            kept: [0; 32],
+            found: [0; 32],
+        };
         let lines = [
             (
                 Status::Usage,
@@ -42,10 +51,7 @@ mod tests {
             (Status::ReadFault, "sirix: reading failed"),
             (Status::WriteFault, "sirix: writing failed"),
             (Status::VolumeFault, "sirix: the volume failed"),
-            (
-                Status::NotOurs { first: 254 },
-                "sirix: not a volume of this program, first byte 254",
-            ),
+            (Status::Damaged(damage), "sirix: damaged at 1, rule 6"),
             (Status::OutOfMemory, "sirix: out of memory"),
         ];
         for (status, line) in lines {
