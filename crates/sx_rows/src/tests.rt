@@ -6,6 +6,7 @@ use std::test::Fail;
 use sx_bytes::Damage;
 use sx_outside::{ListClock, StillClock};
 use sx_shell::Status;
+use sx_volume::MemVolume;
 
 // Over an empty volume, with a clock that stands at 1000, the script has these replies, in whatever pieces it comes.
 fn replies<R: Abort + Wait>(rt: &R, alloc: Global, script: &[u8], want: &[u8]) -> Result<(), Fail> {
@@ -487,6 +488,27 @@ fn shows<R: Abort + Wait>(rt: &R, alloc: Global, image: &[u8], want: &[u8]) -> R
     Ok(())
 }
 
+// Images of the volume, the least of which has so many bytes: the least, the volume as it reads with the byte 1 on the gate,
+// and one with a wrong last byte. What is seen differs where the gate's byte is 1.
+fn leaves<R: Abort + Wait>(
+    rt: &R,
+    alloc: Global,
+    volume: &MemVolume,
+    kept: usize,
+    closed: &[u8],
+    open: &[u8],
+) -> Result<(), Fail> {
+    let bytes = volume.as_slice();
+    assert!(rt; kept <= bytes.len());
+    let mut tail = bytes[kept..].to_vec(alloc)?;
+    shows(rt, alloc, &volume.image(alloc, b"", 0)?, closed)?;
+    shows(rt, alloc, &volume.image(alloc, &tail, 1)?, open)?;
+    if let Some(last) = tail.last_mut() {
+        *last = b'?';
+    }
+    shows(rt, alloc, &volume.image(alloc, &tail, 7)?, closed)
+}
+
 const TWO: &[u8] = b"load 7\ncommit\nload 8\ncommit";
 
 const FIRST_LOAD: &[u8] = b"ok 1\n";
@@ -519,15 +541,7 @@ fn a_crash_leaves_the_commits_that_were_acknowledged(rt: HostRuntime) -> Result<
     ] {
         let ran = still(&rt, alloc, start, TWO, 9, volume(&[call]))?;
         ends(&rt, &ran, Status::VolumeFault, said);
-        let bytes = ran.volume.as_slice();
-        assert!(rt; kept <= bytes.len());
-        let mut tail = bytes[kept..].to_vec(alloc)?;
-        shows(&rt, alloc, &ran.volume.image(alloc, b"", 0)?, closed)?;
-        shows(&rt, alloc, &ran.volume.image(alloc, &tail, 1)?, open)?;
-        if let Some(last) = tail.last_mut() {
-            *last = b'?';
-        }
-        shows(&rt, alloc, &ran.volume.image(alloc, &tail, 7)?, closed)?;
+        leaves(&rt, alloc, &ran.volume, kept, closed, open)?;
     }
     let ran = still(&rt, alloc, b"", TWO, 9, volume(&[12]))?;
     assert_eq!(rt; ran.status, Status::Done);
