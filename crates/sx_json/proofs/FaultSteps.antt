@@ -20,7 +20,7 @@ use Rattle.sx_json.specs.declared.reader.Turn.TheVariants as turn
 use Rattle.sx_json.proofs.Skipping.{skips_none}
 use Rattle.sx_json.proofs.StringShapes.{heads}
 use Rattle.sx_json.proofs.Values.{blank_small, Led-from}
-use Rattle.sx_json.proofs.MemberTurns.{Led-blanks-from}
+use Rattle.sx_json.proofs.MemberTurns.{Behind, Colon, Led-blanks-from}
 use Rattle.sx_json.proofs.Steps.{reverse_push, length_pushed}
 
 blanks_append : (xs ys : List ℕ) → AreBlanks xs → AreBlanks ys → AreBlanks (xs ++ ys)
@@ -56,24 +56,17 @@ more_elements_skip no_values room bytes rest left s h = led_skips (λ b. b ≡ 9
 more_elements_skip (value_then v vs) room bytes rest left s h =
     led_skips (λ b. (behind : List ℕ) × (b ≡ 44 ∷ behind) × Led (λ d. (after : List ℕ) × ValueAt v room d after × MoreElementsAt vs room after left) behind) bytes rest s h
 
--- what stands behind a name and its colon
-abbrev Rest : Value → ℕ → Fields → List ℕ → List ℕ → Type 0
-Rest v room more left d = (after : List ℕ) × ValueAt v room d after × MoreMembersAt more room after left
-
-abbrev Colon : (List ℕ → Type 0) → List ℕ → Type 0
-Colon P b = (behind : List ℕ) × (b ≡ 58 ∷ behind) × Led P behind
-
 -- the value of a whole member, and what is wrong behind it
 abbrev Deeper : ℕ → ℕ → ℕ → List (List ℕ) → JsonFault → List ℕ → Type 0
 Deeper end room count names f d = (v : Value) × (after : List ℕ) × WholeAt v room d after × Next (λ b. CommaFault end 125 (λ e. MembersFault end room (ValueFault end room) count names e f) b f) after
 
 members_skip : (fs : Fields) (room : ℕ) (bytes rest left : List ℕ) → Skips bytes rest → MembersAt fs room rest left → MembersAt fs room bytes left
 members_skip no_fields room bytes rest left s h = led_skips (λ b. b ≡ 125 ∷ left) bytes rest s h
-members_skip (field_then name v fs) room bytes rest left s h = led_skips (NameThen name (Rest v room fs left)) bytes rest s h
+members_skip (field_then name v fs) room bytes rest left s h = led_skips (NameThen name (Behind v room fs left)) bytes rest s h
 
 more_members_skip : (fs : Fields) (room : ℕ) (bytes rest left : List ℕ) → Skips bytes rest → MoreMembersAt fs room rest left → MoreMembersAt fs room bytes left
 more_members_skip no_fields room bytes rest left s h = led_skips (λ b. b ≡ 125 ∷ left) bytes rest s h
-more_members_skip (field_then name v fs) room bytes rest left s h = led_skips (λ b. (behind : List ℕ) × (b ≡ 44 ∷ behind) × Led (NameThen name (Rest v room fs left)) behind) bytes rest s h
+more_members_skip (field_then name v fs) room bytes rest left s h = led_skips (λ b. (behind : List ℕ) × (b ≡ 44 ∷ behind) × Led (NameThen name (Behind v room fs left)) behind) bytes rest s h
 
 pub keeps_blanks : (end : ℕ) (t : Turn) (frames : List Frame) (bytes rest : List ℕ) → Skips bytes rest → KeepsFaults end t frames bytes t frames rest
 keeps_blanks end t frames bytes rest s f (room, e, n) = (room, e, next_skips (λ b. GoesFault end t (reverse frames) room b f) bytes rest s n)
@@ -212,7 +205,7 @@ keeps_members_begin end frames bytes other solid f (suc r, e, n) = (
   where
     by_cases : GoesFault end (turn.Name []) (reverse frames) (suc r) bytes f → GoesFault end turn.FirstName (reverse frames) (suc r) bytes f
     by_cases (inl h) = inl (other, h.0, h.1)
-    by_cases (inr h) = inr (field_then h.0 h.1 h.2, h.3, Led-from (NameThen h.0 (Rest h.1 r h.2 h.3)) bytes h.4, h.5, h.6)
+    by_cases (inr h) = inr (field_then h.0 h.1 h.2, h.3, Led-from (NameThen h.0 (Behind h.1 r h.2 h.3)) bytes h.4, h.5, h.6)
 
 new_name : (names : List (List ℕ)) (name : List ℕ) (P : List ℕ → Type 0) (bytes inside after colon rest : List ℕ) → bytes ≡ 34 ∷ inside → TextAt inside name after → (Contains names name → ⊥) → Skips after colon → colon ≡ 58 ∷ rest → Next P rest → NewName names name P bytes
 new_name names name P bytes inside after colon rest is text fresh skips at n = (inside, after, is, text, fresh, (colon, skips, solid_from 58 colon rest (omega arith) at, (rest, at, n)))
@@ -246,8 +239,8 @@ keeps_name end frames bytes inside name after colon rest members is text fresh s
             after,
             is,
             text,
-            led_skips (Colon (Rest v r c.0 c.1)) after colon skips
-                (Led-from (Colon (Rest v r c.0 c.1)) colon (rest, at, led_skips (Rest v r c.0 c.1) rest d s (Led-from (Rest v r c.0 c.1) d (a, whole.0, more_members_skip c.0 r a b c.1 t c.2)))),
+            led_skips (Colon (Behind v r c.0 c.1)) after colon skips
+                (Led-from (Colon (Behind v r c.0 c.1)) colon (rest, at, led_skips (Behind v r c.0 c.1) rest d s (Led-from (Behind v r c.0 c.1) d (a, whole.0, more_members_skip c.0 r a b c.1 t c.2)))),
           ),
           subst AreDistinct (append_assoc (names_of members) (name ∷ []) (names_in c.0)) c.3,
           c.4,
@@ -289,8 +282,8 @@ keeps_member end frames bytes after members name x is f (suc r, e, n) = (
         inr (
           field_then h.0 h.1 h.2,
           h.3,
-          Led-from (λ b. (behind : List ℕ) × (b ≡ 44 ∷ behind) × Led (NameThen h.0 (Rest h.1 r h.2 h.3)) behind) bytes
-              (after, is, led_skips (NameThen h.0 (Rest h.1 r h.2 h.3)) after n.0 n.1 (Led-from (NameThen h.0 (Rest h.1 r h.2 h.3)) n.0 h.4)),
+          Led-from (λ b. (behind : List ℕ) × (b ≡ 44 ∷ behind) × Led (NameThen h.0 (Behind h.1 r h.2 h.3)) behind) bytes
+              (after, is, led_skips (NameThen h.0 (Behind h.1 r h.2 h.3)) after n.0 n.1 (Led-from (NameThen h.0 (Behind h.1 r h.2 h.3)) n.0 h.4)),
           subst (λ ns. AreDistinct (ns ++ h.0 ∷ names_in h.2)) (names_pushed members name x) h.5,
           h.6,
         )

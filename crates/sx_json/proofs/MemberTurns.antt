@@ -14,7 +14,7 @@ use Rattle.sx_json.proofs.Values.{blank_small, Led-here}
 use Rattle.sx_json.proofs.Turns.{Led-pull, Led-push, Led-solid}
 
 -- what stands behind a name's colon
-abbrev Behind : Value → ℕ → Fields → List ℕ → List ℕ → Type 0
+abbrev pub Behind : Value → ℕ → Fields → List ℕ → List ℕ → Type 0
 Behind x room more left d = (after : List ℕ) × ValueAt x room d after × MoreMembersAt more room after left
 
 -- A closing brace behind the opening one.
@@ -124,7 +124,7 @@ Led-blanks-to P [] rest none all p = p
 Led-blanks-to P (b ∷ bs) rest none all (inl p) = absurd (none b (bs ++ rest) all.0 p)
 Led-blanks-to P (b ∷ bs) rest none all (inr p) = Led-blanks-to P bs rest none all.1 p.1
 
-abbrev Colon : (List ℕ → Type 0) → List ℕ → Type 0
+abbrev pub Colon : (List ℕ → Type 0) → List ℕ → Type 0
 Colon P b = (behind : List ℕ) × (b ≡ 58 ∷ behind) × Led P behind
 
 colon_solid : (P : List ℕ → Type 0) (b : ℕ) (r : List ℕ) → IsBlank b → Colon P (b ∷ r) → ⊥

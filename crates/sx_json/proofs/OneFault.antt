@@ -24,7 +24,7 @@ use Rattle.sx_json.proofs.FaultScalars.{number_longest, longest_one}
 use Rattle.sx_json.proofs.FaultSteps.{next_here, next_skips, solid_from}
 use Rattle.sx_json.proofs.Blanks.{value_solid}
 use Rattle.sx_json.proofs.ScalarReads.{IsEnd, apart, AreNumberBytes-at, front_is, elements_end, members_end}
-use Rattle.sx_json.proofs.MemberTurns.{slice_get_left, slice_get_seam}
+use Rattle.sx_json.proofs.MemberTurns.{Behind, slice_get_left, slice_get_seam}
 use Rattle.sx_tree.proofs.NameLists.{slice_get-Contains}
 
 -- what reading comes to: the rest behind what is whole, or a fault
@@ -211,9 +211,6 @@ whole_items end room (value_then v vs) after left h =
     let ends = ends_before v a (λ byte rest is. elements_end vs room byte rest left (subst (λ l. MoreElementsAt vs room l left) is element.3.2)) in
     (suc more.0, (comma.0, comma.1, comma.2, inr (inl (comma.3.0, comma.3.1, (element.0, element.1, element.2, (v, a, (element.3.1, ends), more.1))))))
 
-abbrev Rest : Value → ℕ → Fields → List ℕ → List ℕ → Type 0
-Rest v room more left d = (after : List ℕ) × ValueAt v room d after × MoreMembersAt more room after left
-
 named : (names : List (List ℕ)) (name : List ℕ) (P : List ℕ → Type 0) (bytes : List ℕ) → ((b : List ℕ) → P b → IsSolid b) → (Contains names name → ⊥) → NameThen name P bytes → NewName names name P bytes
 named names name P bytes solid fresh h =
     let colon = led_next (λ b. (behind : List ℕ) × (b ≡ 58 ∷ behind) × Led P behind) h.1 (λ b p. solid_from 58 b p.0 (omega arith) p.1) h.4 in
@@ -231,9 +228,9 @@ unfolding AfterItem Members
 whole_members end room no_fields names after left distinct h =
     (0, next_map (λ b. b ≡ 125 ∷ left) (λ b. AfterItem end 125 (λ e. Members end room 0 names e (whole left)) b (whole left)) after (λ b is. inr (inr (left, is, refl))) (led_next (λ b. b ≡ 125 ∷ left) after (λ b is. solid_from 125 b left (omega arith) is) h))
 whole_members end room (field_then name v fs) names after left distinct h =
-    let comma = led_next (λ b. (behind : List ℕ) × (b ≡ 44 ∷ behind) × Led (NameThen name (Rest v room fs left)) behind) after (λ b p. solid_from 44 b p.0 (omega arith) p.1) h in
-    let place = led_next (NameThen name (Rest v room fs left)) comma.3.0 (λ b p. solid_from 34 b p.0 (omega arith) p.2) comma.3.2 in
-    let new = named names name (Rest v room fs left) place.0 (λ b p byte rest is blank. value_solid v room byte rest p.0 blank (subst (λ l. ValueAt v room l p.0) is p.1)) (distinct_fresh names name (names_in fs) distinct) place.3 in
+    let comma = led_next (λ b. (behind : List ℕ) × (b ≡ 44 ∷ behind) × Led (NameThen name (Behind v room fs left)) behind) after (λ b p. solid_from 44 b p.0 (omega arith) p.1) h in
+    let place = led_next (NameThen name (Behind v room fs left)) comma.3.0 (λ b p. solid_from 34 b p.0 (omega arith) p.2) comma.3.2 in
+    let new = named names name (Behind v room fs left) place.0 (λ b p byte rest is blank. value_solid v room byte rest p.0 blank (subst (λ l. ValueAt v room l p.0) is p.1)) (distinct_fresh names name (names_in fs) distinct) place.3 in
     let value = new.5.3.2 in
     let a = value.3.0 in
     let more = whole_members end room fs (names ++ name ∷ []) a left (subst AreDistinct (sym (append_assoc names (name ∷ []) (names_in fs))) distinct) value.3.2 in
@@ -253,14 +250,16 @@ behind_comma end closing P rest out apart n =
     by_cases b is (inr (inr h)) = absurd (apart (heads 44 closing rest h.0 (sym is ∙ h.1)).0)
 
 -- Behind an opening bracket and brace.
+abbrev Listed : ℕ → (ℕ → List ℕ → Out → Type 0) → Out → List ℕ → Type 0
+Listed closing P out b = ((r : List ℕ) × (b ≡ closing ∷ r) × (out ≡ whole r)) ⊎ (BeginsOther closing b × (n : ℕ) × P n b out)
+
 abbrev ListOut : ℕ → (ℕ → List ℕ → Out → Type 0) → List ℕ → Out → Type 0
-ListOut closing P rest out = Next (λ b. ((r : List ℕ) × (b ≡ closing ∷ r) × (out ≡ whole r)) ⊎ (BeginsOther closing b × (n : ℕ) × P n b out)) rest
+ListOut closing P rest out = Next (Listed closing P out) rest
 
 list_one : (closing : ℕ) (P : ℕ → List ℕ → Out → Type 0) (rest : List ℕ) (out other : Out) → ((n m : ℕ) (b : List ℕ) → P n b out → P m b other → out ≡ other) → ListOut closing P rest out → ListOut closing P rest other → out ≡ other
-list_one closing P rest out other f h k =
-    next_one (λ b. ((r : List ℕ) × (b ≡ closing ∷ r) × (out ≡ whole r)) ⊎ (BeginsOther closing b × (n : ℕ) × P n b out)) (λ b. ((r : List ℕ) × (b ≡ closing ∷ r) × (other ≡ whole r)) ⊎ (BeginsOther closing b × (n : ℕ) × P n b other)) (out ≡ other) rest h k by_cases
+list_one closing P rest out other f h k = next_one (Listed closing P out) (Listed closing P other) (out ≡ other) rest h k by_cases
   where
-    by_cases : (b : List ℕ) → ((r : List ℕ) × (b ≡ closing ∷ r) × (out ≡ whole r)) ⊎ (BeginsOther closing b × (n : ℕ) × P n b out) → ((r : List ℕ) × (b ≡ closing ∷ r) × (other ≡ whole r)) ⊎ (BeginsOther closing b × (n : ℕ) × P n b other) → out ≡ other
+    by_cases : (b : List ℕ) → Listed closing P out b → Listed closing P other b → out ≡ other
     by_cases b (inl p) (inl q) = p.2 ∙ ap whole (heads closing closing p.0 q.0 (sym p.1 ∙ q.1)).1 ∙ sym q.2
     by_cases b (inl p) (inr q) = absurd (q.0 p.0 p.1)
     by_cases b (inr p) (inl q) = absurd (p.0 q.0 q.1)
@@ -282,9 +281,6 @@ bracket_not_first (inr (inr (inr (inr (inr (inr e)))))) = omega (arith, e)
 next_pair : (P Q : List ℕ → Type 0) (bytes : List ℕ) → Next P bytes → Next Q bytes → Next (λ b. P b × Q b) bytes
 next_pair P Q bytes n m = (n.0, n.1, n.2, (n.3, subst Q (skips_same bytes m.0 n.0 m.1 m.2 n.1 n.2) m.3))
 
-abbrev Listed : ℕ → (ℕ → List ℕ → Out → Type 0) → Out → List ℕ → Type 0
-Listed closing P out b = ((r : List ℕ) × (b ≡ closing ∷ r) × (out ≡ whole r)) ⊎ (BeginsOther closing b × (n : ℕ) × P n b out)
-
 list_ends : (closing : ℕ) (P : ℕ → List ℕ → Out → Type 0) (rest left : List ℕ) → 33 ≤ closing → Led (λ b. b ≡ closing ∷ left) rest → ListOut closing P rest (whole left)
 list_ends closing P rest left above h =
     next_map (λ b. b ≡ closing ∷ left) (Listed closing P (whole left)) rest (λ b is. inl (left, is, refl)) (led_next (λ b. b ≡ closing ∷ left) rest (λ b is. solid_from closing b left above is) h)
@@ -303,9 +299,9 @@ object_out end room no_fields rest left distinct h = list_ends 125 (λ n b out. 
 object_out end room (field_then name v fs) rest left distinct h =
     let more = whole_members end room (field_then name v fs) [] (44 ∷ rest) left distinct (inl (rest, refl, h)) in
     let members = behind_comma end 125 (λ d. Members end room more.0 [] d (whole left)) rest (whole left) (λ e. omega (arith, e)) more.1 in
-    let place = led_next (NameThen name (Rest v room fs left)) rest (λ b p. solid_from 34 b p.0 (omega arith) p.2) h in
-    next_map (λ b. NameThen name (Rest v room fs left) b × Members end room more.0 [] b (whole left)) (Listed 125 (λ n b out. Members end room n [] b out) (whole left)) rest
-    (λ b p. inr (λ r is. omega (arith, (heads 34 125 p.0.0 r (sym p.0.2 ∙ is)).0), more.0, p.1)) (next_pair (NameThen name (Rest v room fs left)) (λ d. Members end room more.0 [] d (whole left)) rest place members)
+    let place = led_next (NameThen name (Behind v room fs left)) rest (λ b p. solid_from 34 b p.0 (omega arith) p.2) h in
+    next_map (λ b. NameThen name (Behind v room fs left) b × Members end room more.0 [] b (whole left)) (Listed 125 (λ n b out. Members end room n [] b out) (whole left)) rest
+    (λ b p. inr (λ r is. omega (arith, (heads 34 125 p.0.0 r (sym p.0.2 ∙ is)).0), more.0, p.1)) (next_pair (NameThen name (Behind v room fs left)) (λ d. Members end room more.0 [] d (whole left)) rest place members)
 
 -- A literal name.
 abbrev WordOut : ℕ → List ℕ → List ℕ → Out → Type 0

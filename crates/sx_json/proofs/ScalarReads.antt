@@ -11,6 +11,7 @@ use Rattle.sx_json.specs.Reading.{ReadsText}
 use Rattle.sx_json.specs.declared.reader.Frame.{Frame}
 use Rattle.sx_json.specs.declared.reader.Frame.TheVariants.{Array, Member}
 use Rattle.sx_json.proofs.StringShapes.{heads}
+use Rattle.sx_json.proofs.Skipping.{same_tail}
 use Rattle.sx_json.proofs.Values.{blank_small, Led-here, Led-from, First, a_string, a_number, a_true, a_false, a_null, an_array, an_object, first_of}
 use Rattle.sx_json.proofs.Turns.{Led-solid, string_read}
 
@@ -176,10 +177,6 @@ longest_from bytes most len m front l left n short is =
     let cut : take (length l) (take most bytes) ≡ l = take-take (length l) most bytes within ∙ ap (take (length l)) is ∙ take-append_seam l left in
     let fits : length l ≤ length (take most bytes) = omega (arith, length-take most bytes) in
     front.longest (length l) fits ([], subst IsNumber (sym (append-nil (take (length l) (take most bytes)) ∙ cut)) n)
-
-same_tail : (word a b : List ℕ) → word ++ a ≡ word ++ b → a ≡ b
-same_tail [] a b e = e
-same_tail (x ∷ xs) a b e = same_tail xs a b (heads x x (xs ++ a) (xs ++ b) e).1
 
 only_true : (x : Value) (room : ℕ) (rest left : List ℕ) → First x room 116 rest left → (x ≡ scalar (Bool true)) × (116 ∷ rest ≡ codes "true" ++ left)
 only_true x room rest left (a_string c e b t) = absurd (omega (arith, b))
