@@ -32,18 +32,6 @@ pub within_then : (step : List ℕ → List ℕ → Type 0) (start before after 
 within_then step start before after old now was is le counts_now so_far time here c left =
     ⊎_elim (so_far c) (λ (during : is before c). so_far c (counts_now c (here c during))) (time.nothing_else start c le left)
 
--- two calls, of which neither leaves an image more
-pub none_more_then : (start before after : ℕ) (old now : List ℕ → Type 0) (was is : ℕ → List ℕ → Type 0) → start ≤ before
-    → ((c : List ℕ) → now c → was start c)
-    → IsWithin old (was start) → Elapses before after was is → IsWithin now (is before)
-    → IsWithin old (is start)
-none_more_then start before after old now was is le counts_now so_far time here c left =
-    ⊎_elim (so_far c) (λ (during : is before c). so_far c (counts_now c (here c during))) (time.nothing_else start c le left)
-
--- and of which neither leaves an image less
-pub none_less_then : (old mid new : List ℕ → Type 0) → IsWithin mid old → IsWithin new mid → IsWithin new old
-none_less_then old mid new first second c image = second c (first c image)
-
 -- what held of each image at some moment holds of each image now
 pub images_now : (bytes : Option (List ℕ)) (now was : List ℕ → Type 0) (P : List ℕ → Type 0) → ((c : List ℕ) → now c → was c)
     → IfSome bytes (λ _. (c : List ℕ) → was c → P c) → IfSome bytes (λ _. (c : List ℕ) → now c → P c)

@@ -12,4 +12,3 @@ mod steps;
 pub use fault::{CommitFault, LogFault};
 pub use log::Log;
 pub use opening::open;
-pub use sx_bytes::Damage;

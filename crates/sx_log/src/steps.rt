@@ -57,6 +57,7 @@ fn prepare<V: Volume>(alloc: Global, volume: &mut V, gate: u64, row: &Row) -> Re
 {
     let piece = Arc::new(alloc, sealed_bytes(alloc, row)?)?;
     volume.ready(alloc, 5)?;
+    // The length fits 64 bits, so that the place behind the gate does.
     let _len = volume.len();
     volume.hold(alloc, gate + 1, piece)
 }
