@@ -95,9 +95,13 @@ impl Volume for FileVolume {
 
     ghost was_image = { λ _ _ _. Unit {0} };
 
+    ghost synced = { λ _ _. ⊥ };
+
     ghost counts_now = { λ _ _ _ _ _. tt };
 
     ghost only_now = { λ _ _ _. tt };
+
+    ghost synced_by_now = { λ _ _ never. absurd never };
 
     ghost told_size = { λ volume. told_nothing volume.size };
 

@@ -3,9 +3,9 @@ use Rattle.std.proofs.Common.{◌≡◌, inl, inr, ℕ, ◌+◌, ◌<◌, ◌≤
 use Rattle.std.proofs.lemmas.List.{length-take, take-take}
 use Rattle.std.specs.Option.{option_map}
 use Rattle.sx_layout.specs.Group.{Group}
-use Rattle.sx_log.proofs.Moments.{follows_within, follows_weaker, follows_then}
+use Rattle.sx_log.proofs.Moments.{Adds, follows_within, follows_weaker, follows_then}
 use Rattle.sx_log.specs.Written.{with_closed_group, IsBehind, Commits}
-use Rattle.sx_volume.specs.Images.{Only, IsWithin, Follows, Appends, Puts, Elapses}
+use Rattle.sx_volume.specs.Images.{Only, IsWithin, Follows, Appends, Puts}
 
 behind_same : (gate : ℕ) (c : List ℕ) → IsBehind gate c c
 behind_same gate c below = refl
@@ -26,7 +26,7 @@ behind_then_append gate end a b c first append below =
 -- a call that leaves no image more, and then one that writes behind the gate
 pub behind_next : (gate : ℕ) (start before after : ℕ) (old now : List ℕ → Type 0) (was is : ℕ → List ℕ → Type 0) → start ≤ before
     → ((c : List ℕ) → now c → was start c)
-    → IsWithin old (was start) → Elapses before after was is → Follows (IsBehind gate) now (is before)
+    → IsWithin old (was start) → Adds before was is → Follows (IsBehind gate) now (is before)
     → Follows (IsBehind gate) old (is start)
 behind_next gate start before after old now was is le counts_now so_far time here =
     follows_then (IsBehind gate) (IsBehind gate) start before after old now was is le counts_now (λ a b c image first second. behind_then gate a b c first second)
@@ -36,7 +36,7 @@ behind_next gate start before after old now was is le counts_now so_far time her
 pub opens : (gate : ℕ) (group : Group) (bytes closed : Option (List ℕ)) (start before after : ℕ) (old now : List ℕ → Type 0) (was is : ℕ → List ℕ → Type 0) → start ≤ before
     → ((c : List ℕ) → now c → was start c)
     → closed ≡ option_map (λ all. with_closed_group gate group all) bytes → IfSome closed (λ all. Only all now)
-    → Follows (IsBehind gate) old (was start) → Elapses before after was is → Follows (Puts gate) now (is before)
+    → Follows (IsBehind gate) old (was start) → Adds before was is → Follows (Puts gate) now (is before)
     → IfSome bytes (λ all. Follows (Commits gate group all) old (is start))
 opens gate group None closed start before after old now was is le counts_now is_closed durable so_far time here = tt
 opens gate group (Some all) closed start before after old now was is le counts_now is_closed durable so_far time here =

@@ -7,7 +7,7 @@ use Rattle.sx_layout.specs.Group.{Group, HasGroups}
 use Rattle.sx_log.specs.Reading.{BeginsWithGroups, FaultExplains, IsGiven, IsLeft, IsSettled, IsSynced, LeavesImages}
 use Rattle.sx_log.specs.declared.fault.LogFault.{LogFault}
 use Rattle.sx_log.specs.declared.fault.LogFault.TheVariants.{Failed, Damaged, OutOfMemory}
-use Rattle.sx_volume.specs.Images.{IsWithin, Elapses}
+use Rattle.sx_volume.specs.Images.{IsWithin, Elapses, Syncs}
 
 abbrev groups_are : List Group → Result (List Group) Damage
 groups_are groups = Ok groups
@@ -44,33 +44,37 @@ all_given None result reads damaged = tt
 all_given (Some image) result reads damaged = λ answer is. given image answer result reads damaged is
 
 -- the opening's sync, and one more call
-synced : (image : List ℕ) (start mid end : ℕ) (before : List ℕ → Type 0) (first second : ℕ → List ℕ → Type 0) → start ≤ mid → IsWithin before (first start) → Elapses mid end first second
-    → ((c : List ℕ) → second mid c → IsLeft image c) → IsSynced image start end before second
-synced image start mid end before first second le within time left = record {
+synced : (image : List ℕ) (start mid end : ℕ) (before : List ℕ → Type 0) (first second : ℕ → List ℕ → Type 0) (x y z : ℕ → Type 0) → Syncs start mid x y → IsWithin before (first start)
+    → Elapses mid end first second y z → ((c : List ℕ) → second mid c → IsLeft image c) → IsSynced image start end before second x z
+synced image start mid end before first second x y z begun within time left = record {
   moment = mid;
-  no_earlier = le;
+  later = begun.later;
   no_later = time.later;
-  up_to = λ c was. ⊎_elim (λ (earlier : first start c). inl (within c earlier)) (λ (during : second mid c). inr during) (time.nothing_else start c le was);
+  here = time.syncs mid begun.here;
+  first = λ t lt sync. ⊎_elim (λ (old : x t). old) (λ (here : t ≡ mid). absurd (omega (arith, lt, here))) (begun.no_other t (time.no_sync_before t (omega (arith, lt)) sync));
+  up_to = λ c was.
+      ⊎_elim (λ (earlier : first start c). inl (within c earlier)) (λ (during : second mid c). inr during) (time.nothing_else start c (omega (arith, begun.later)) was);
   since = left;
 }
 
 -- a volume of at most one byte goes on to have at most one
-pub synced_short : (bytes now : Option (List ℕ)) (size start mid end : ℕ) (before : List ℕ → Type 0) (first second : ℕ → List ℕ → Type 0) → now ≡ bytes
-    → ((all : List ℕ) → bytes ≡ Some all → length all ≡ size) → size ≤ 1 → start ≤ mid → IsWithin before (first start) → Elapses mid end first second
-    → IfSome now (λ _. (c : List ℕ) → second mid c → length c ≤ 1) → IfSome bytes (λ image. IsSynced image start end before second)
-synced_short None now size start mid end before first second same told short le within time left = tt
-synced_short (Some image) now size start mid end before first second same told short le within time left =
+pub synced_short : (bytes now : Option (List ℕ)) (size start mid end : ℕ) (before : List ℕ → Type 0) (first second : ℕ → List ℕ → Type 0) (x y z : ℕ → Type 0) → now ≡ bytes
+    → ((all : List ℕ) → bytes ≡ Some all → length all ≡ size) → size ≤ 1 → IfSome bytes (λ _. Syncs start mid x y) → IsWithin before (first start) → Elapses mid end first second y z
+    → IfSome now (λ _. (c : List ℕ) → second mid c → length c ≤ 1) → IfSome bytes (λ image. IsSynced image start end before second x z)
+synced_short None now size start mid end before first second x y z same told short begun within time left = tt
+synced_short (Some image) now size start mid end before first second x y z same told short begun within time left =
     let long = told image refl in
     let here : (c : List ℕ) → second mid c → length c ≤ 1 = subst (λ (b : Option (List ℕ)). IfSome b (λ _. (c : List ℕ) → second mid c → length c ≤ 1)) same left in
-    synced image start mid end before first second le within time (λ c was. inr (omega (arith, long, short), here c was))
+    synced image start mid end before first second x y z begun within time (λ c was. inr (omega (arith, long, short), here c was))
 
 -- a longer one goes on to have the same bytes
-pub synced_same : (bytes now : Option (List ℕ)) (start mid end : ℕ) (before settled : List ℕ → Type 0) (after : List ℕ → Type 0) (first second : ℕ → List ℕ → Type 0) → now ≡ bytes
-    → start ≤ mid → IsWithin before (first start) → IsSettled now settled → LeavesImages mid end first second settled after → IfSome bytes (λ image. IsSynced image start end before second)
-synced_same None now start mid end before settled after first second same le within only leaves = tt
-synced_same (Some image) now start mid end before settled after first second same le within only leaves =
+pub synced_same : (bytes now : Option (List ℕ)) (start mid end : ℕ) (before settled : List ℕ → Type 0) (after : List ℕ → Type 0) (first second : ℕ → List ℕ → Type 0) (x y z : ℕ → Type 0) → now ≡ bytes
+    → IfSome bytes (λ _. Syncs start mid x y) → IsWithin before (first start) → IsSettled now settled → LeavesImages mid end first second y z settled after
+    → IfSome bytes (λ image. IsSynced image start end before second x z)
+synced_same None now start mid end before settled after first second x y z same begun within only leaves = tt
+synced_same (Some image) now start mid end before settled after first second x y z same begun within only leaves =
     let here = subst (λ (b : Option (List ℕ)). IsSettled b settled) same only in
-    synced image start mid end before first second le within leaves.time (λ c was. inl (here c (leaves.no_more c was)))
+    synced image start mid end before first second x y z begun within leaves.time (λ c was. inl (here c (leaves.no_more c was)))
 
 pub or_not : (bytes : Option (List ℕ)) (P : List ℕ → Type 0) (Q : Type 0) → IfSome bytes P → IfSome bytes (λ image. P image ⊎ Q)
 or_not None P Q holds = tt

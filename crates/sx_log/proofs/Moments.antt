@@ -1,7 +1,11 @@
 -- How calls on a volume follow on one another, for whoever knows the tests and laws of a volume alone. What time does over
 -- several calls stands in sx_volume's lemmas on images.
-use Rattle.std.proofs.Common.{⊎_elim, ℕ, ◌≤◌, List, Option, None, Some, IfSome}
-use Rattle.sx_volume.specs.Images.{IsWithin, Follows, Elapses}
+use Rattle.std.proofs.Common.{⊎_elim, ◌⊎◌, ℕ, ◌≤◌, List, Option, None, Some, IfSome}
+use Rattle.sx_volume.specs.Images.{IsWithin, Follows}
+
+-- what passes the second test for a moment before a call passed it before, or passes it for the call's own start
+abbrev pub Adds : ℕ → (ℕ → List ℕ → Type 0) → (ℕ → List ℕ → Type 0) → Type 0
+Adds start was is = (t : ℕ) (c : List ℕ) → t ≤ start → is t c → was t c ⊎ is start c
 
 -- a call that leaves no image more takes a step that may be none at all
 pub follows_within : (step : List ℕ → List ℕ → Type 0) (old new : List ℕ → Type 0) → ((c : List ℕ) → step c c) → IsWithin old new → Follows step old new
@@ -15,25 +19,19 @@ follows_weaker step weaker old new less follows c left = let from = follows c le
 pub follows_then : (step next : List ℕ → List ℕ → Type 0) (start before after : ℕ) (old now : List ℕ → Type 0) (was is : ℕ → List ℕ → Type 0) → start ≤ before
     → ((c : List ℕ) → now c → was start c)
     → ((a b c : List ℕ) → now b → step a b → next b c → step a c)
-    → Follows step old (was start) → Elapses before after was is → Follows next now (is before)
+    → Follows step old (was start) → Adds before was is → Follows next now (is before)
     → Follows step old (is start)
 follows_then step next start before after old now was is le counts_now chain so_far time here c left =
     ⊎_elim (so_far c)
     (λ (during : is before c).
     let mid = here c during in
     let from = so_far mid.0 (counts_now mid.0 mid.1) in (from.0, from.1, chain from.0 mid.0 c mid.1 from.2 mid.2))
-    (time.nothing_else start c le left)
+    (time start c le left)
 
 -- one more call that leaves no image more
 pub within_then : (step : List ℕ → List ℕ → Type 0) (start before after : ℕ) (old now : List ℕ → Type 0) (was is : ℕ → List ℕ → Type 0) → start ≤ before
     → ((c : List ℕ) → now c → was start c)
-    → Follows step old (was start) → Elapses before after was is → IsWithin now (is before)
+    → Follows step old (was start) → Adds before was is → IsWithin now (is before)
     → Follows step old (is start)
 within_then step start before after old now was is le counts_now so_far time here c left =
-    ⊎_elim (so_far c) (λ (during : is before c). so_far c (counts_now c (here c during))) (time.nothing_else start c le left)
-
--- what held of each image at some moment holds of each image now
-pub images_now : (bytes : Option (List ℕ)) (now was : List ℕ → Type 0) (P : List ℕ → Type 0) → ((c : List ℕ) → now c → was c)
-    → IfSome bytes (λ _. (c : List ℕ) → was c → P c) → IfSome bytes (λ _. (c : List ℕ) → now c → P c)
-images_now None now was P counts_now have = tt
-images_now (Some all) now was P counts_now have = λ c image. have c (counts_now c image)
+    ⊎_elim (so_far c) (λ (during : is before c). so_far c (counts_now c (here c during))) (time start c le left)

@@ -10,15 +10,15 @@ use Rattle.sx_log.specs.Reading.{LeavesImages, TellsDamage}
 use Rattle.sx_volume.proofs.Images.{elapses_then, elapses_same}
 
 -- the same of two calls
-pub leaves_then : (start mid end : ℕ) (first second third : ℕ → List ℕ → Type 0) (old now new : List ℕ → Type 0)
+pub leaves_then : (start mid end : ℕ) (first second third : ℕ → List ℕ → Type 0) (x y z : ℕ → Type 0) (old now new : List ℕ → Type 0)
     → ((t : ℕ) (c : List ℕ) → t ≤ mid → now c → second t c)
-    → LeavesImages start mid first second old now → LeavesImages mid end second third now new → LeavesImages start end first third old new
-leaves_then start mid end first second third old now new counts_now a b = record {
+    → LeavesImages start mid first second x y old now → LeavesImages mid end second third y z now new → LeavesImages start end first third x z old new
+leaves_then start mid end first second third x y z old now new counts_now a b = record {
   no_more = λ c left.
       ⊎_elim (λ (before : second start c). a.no_more c before) (λ (during : third mid c). a.no_more c (counts_now start c a.time.later (b.no_more c during)))
       (b.time.nothing_else start c a.time.later left);
   no_less = λ c image. b.no_less c (a.no_less c image);
-  time = elapses_then start mid end first second third a.time b.time;
+  time = elapses_then start mid end first second third x y z a.time b.time;
 }
 
 byte_there : (all : List ℕ) (place : ℕ) → place < length all → slice_get all place ≡ Some (slice_index_or (take 1 (drop place all)) 0 0)
@@ -136,6 +136,7 @@ group_read (Some all) place group read body =
     )
 
 -- no call at all
-pub leaves_none : (now : ℕ) (was : ℕ → List ℕ → Type 0) (image : List ℕ → Type 0) → ((t : ℕ) (c : List ℕ) → t ≤ now → image c → was t c) → ((c : List ℕ) → was now c → image c)
-    → LeavesImages now now was was image image
-leaves_none now was image counts_now only_now = record { no_more = only_now; no_less = λ c left. left; time = elapses_same now was image counts_now only_now }
+pub leaves_none : (now : ℕ) (was : ℕ → List ℕ → Type 0) (has : ℕ → Type 0) (image : List ℕ → Type 0) → ((t : ℕ) (c : List ℕ) → t ≤ now → image c → was t c) → ((c : List ℕ) → was now c → image c)
+    → LeavesImages now now was was has has image image
+leaves_none now was has image counts_now only_now =
+    record { no_more = only_now; no_less = λ c left. left; time = elapses_same now was has image counts_now only_now }

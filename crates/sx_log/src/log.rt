@@ -4,7 +4,7 @@ ghost use Rattle.sx_layout.specs.Group.{Group, HasGroups, end_of, group_limit, l
 ghost use Rattle.sx_log.specs.Keeps.{Keeps};
 ghost use Rattle.sx_log.specs.Row.{group_of, shown};
 ghost use Rattle.sx_model.specs.Commit.{first_time};
-ghost use Rattle.sx_volume.specs.Images.{Elapses};
+ghost use Rattle.sx_volume.specs.Images.{Elapses, HasSynced};
 
 use crate::CommitFault;
 use crate::group::Row;
@@ -114,10 +114,10 @@ impl Log {
         ensures nothing_done { IsErrOf result CommitFault.OutOfMemory → (V.bytes volume.new ≡ V.bytes volume.old) × (V.size volume.new ≡ V.size volume.old) × Keeps (V.bytes volume.new) (V.size volume.new) (V.is_image volume.new) self.new }
         ensures nothing_meanwhile { IsErrOf result CommitFault.OutOfMemory → IfSome (V.bytes volume.old) (λ _. (image : List ℕ) → V.was_image volume.new (V.moment volume.old) image → HasGroups image self.old) }
         ensures stage { IfErr result (λ fault. (stage : ℕ) → fault ≡ CommitFault.Failed stage → (stage ≡ 1) ⊎ (stage ≡ 2)) }
-        ensures first_stage { IsErrOf result (CommitFault.Failed 1) → IfSome (V.bytes volume.old) (λ _. (image : List ℕ) → V.is_image volume.new image → HasGroups image self.old) }
-        ensures second_stage { IsErrOf result (CommitFault.Failed 2) → IfSome (V.bytes volume.old) (λ _. (image : List ℕ) → V.is_image volume.new image → HasGroups image self.old ⊎ HasGroups image (self.old ++ group_of time next body.now ∷ [])) }
+        ensures first_stage { IsErrOf result (CommitFault.Failed 1) → IfSome (V.bytes volume.old) (λ _. (image : List ℕ) → V.was_image volume.new (V.moment volume.old) image → HasGroups image self.old) }
+        ensures second_stage { IsErrOf result (CommitFault.Failed 2) → IfSome (V.bytes volume.old) (λ _. HasSynced (V.moment volume.old) (V.synced volume.new)) }
         ensures during { IfSome (V.bytes volume.old) (λ _. (image : List ℕ) → V.was_image volume.new (V.moment volume.old) image → HasGroups image self.old ⊎ HasGroups image (self.old ++ group_of time next body.now ∷ [])) }
-        ensures time { Elapses (V.moment volume.old) (V.moment volume.new) (V.was_image volume.old) (V.was_image volume.new) }
+        ensures time { Elapses (V.moment volume.old) (V.moment volume.new) (V.was_image volume.old) (V.was_image volume.new) (V.synced volume.old) (V.synced volume.new) }
         ensures cause { IfErr result (λ fault. (stage : ℕ) → fault ≡ CommitFault.Failed stage → Rose (V.faults volume.old) (V.faults volume.new)) }
         ensures never_falls { V.faults volume.old ≤ V.faults volume.new }
     {

@@ -1,12 +1,12 @@
-ghost use Rattle.std.specs.Prelude.{◌≡◌, ◌≢◌, ◌<◌, ◌≤◌, ◌⊎◌, [], ◌∷◌, List, ℕ, Result, Ok, IfSome, IfOk, IfErr, OnOk, OnErr, IsErrOf, is_some, length};
+ghost use Rattle.std.specs.Prelude.{◌≡◌, ◌≢◌, ◌<◌, ◌≤◌, ◌⊎◌, [], ◌∷◌, List, ℕ, Result, Ok, IfSome, IfOk, IfErr, OnOk, OnErr, IsErrOf, length};
 ghost use Rattle.std.specs.Option.{option_map};
 ghost use Rattle.sx_bytes.specs.declared.damage.Damage.{Damage};
 ghost use Rattle.sx_layout.specs.Damage.{Reads};
 ghost use Rattle.sx_layout.specs.Group.{Group};
 ghost use Rattle.sx_log.specs.Keeps.{Keeps};
-ghost use Rattle.sx_log.specs.Reading.{FaultExplains, IsGiven, IsOther, IsSettled, IsSynced};
+ghost use Rattle.sx_log.specs.Reading.{FaultExplains, IsGiven, IsOther, IsSettled, IsSynced, IsUnsynced, opened_bytes};
 ghost use Rattle.sx_outside.specs.Faults.{Rose};
-ghost use Rattle.sx_volume.specs.Images.{IsWithin, Elapses};
+ghost use Rattle.sx_volume.specs.Images.{IsWithin, Elapses, NoSync, Syncs};
 
 use crate::group::CLOSED;
 use crate::reading::{byte_at, read_groups};
@@ -27,12 +27,12 @@ pub fn open<V: Volume>(alloc: Global, volume: &mut V) -> Result<Log, LogFault>
     ensures exactly { IfSome (V.bytes volume.old) (λ image. (answer : Result (List Group) Damage) → Reads image answer → IsGiven answer result) }
 
     ensures kept { IfOk result (λ log. Keeps (V.bytes volume.new) (V.size volume.new) (V.is_image volume.new) log) }
-    ensures told { OnOk result (is_some (V.bytes volume.new) ≡ is_some (V.bytes volume.old)) }
+    ensures bytes { OnOk result (V.bytes volume.new ≡ option_map opened_bytes (V.bytes volume.old)) }
     ensures nothing_done { IfErr result (λ fault. fault ≢ LogFault.Failed → (V.bytes volume.new ≡ V.bytes volume.old) × (V.size volume.new ≡ V.size volume.old)) }
-    ensures synced { OnOk result (IfSome (V.bytes volume.old) (λ image. IsSynced image (V.moment volume.old) (V.moment volume.new) (V.is_image volume.old) (V.was_image volume.new))) }
-    ensures synced_or_not { OnErr result (IfSome (V.bytes volume.old) (λ image. IsSynced image (V.moment volume.old) (V.moment volume.new) (V.is_image volume.old) (V.was_image volume.new)
-        ⊎ IsWithin (V.is_image volume.old) (V.was_image volume.new (V.moment volume.old)))) }
-    ensures time { Elapses (V.moment volume.old) (V.moment volume.new) (V.was_image volume.old) (V.was_image volume.new) }
+    ensures synced { OnOk result (IfSome (V.bytes volume.old) (λ image. IsSynced image (V.moment volume.old) (V.moment volume.new) (V.is_image volume.old) (V.was_image volume.new) (V.synced volume.old) (V.synced volume.new))) }
+    ensures synced_or_not { OnErr result (IfSome (V.bytes volume.old) (λ image. IsSynced image (V.moment volume.old) (V.moment volume.new) (V.is_image volume.old) (V.was_image volume.new) (V.synced volume.old) (V.synced volume.new)
+        ⊎ IsUnsynced (V.moment volume.old) (V.is_image volume.old) (V.was_image volume.new) (V.synced volume.old) (V.synced volume.new))) }
+    ensures time { Elapses (V.moment volume.old) (V.moment volume.new) (V.was_image volume.old) (V.was_image volume.new) (V.synced volume.old) (V.synced volume.new) }
     ensures cause { IsErrOf result LogFault.Failed → Rose (V.faults volume.old) (V.faults volume.new) }
     ensures never_falls { V.faults volume.old ≤ V.faults volume.new }
 {
@@ -53,8 +53,10 @@ fn begin<V: Volume>(alloc: Global, volume: &mut V) -> Result<(), LogFault>
     ensures spare { OnOk result (2 ≤ V.spare volume.new) }
     ensures fault { IfErr result IsOther }
     ensures nothing_done { IsErrOf result LogFault.OutOfMemory → V.bytes volume.new ≡ V.bytes volume.old }
+    ensures synced { OnOk result (IfSome (V.bytes volume.old) (λ _. Syncs (V.moment volume.old) (V.moment volume.new) (V.synced volume.old) (V.synced volume.new))) }
+    ensures no_sync { OnErr result (NoSync (V.synced volume.old) (V.synced volume.new)) }
     ensures images { IsWithin (V.is_image volume.old) (V.was_image volume.new (V.moment volume.old)) }
-    ensures time { Elapses (V.moment volume.old) (V.moment volume.new) (V.was_image volume.old) (V.was_image volume.new) }
+    ensures time { Elapses (V.moment volume.old) (V.moment volume.new) (V.was_image volume.old) (V.was_image volume.new) (V.synced volume.old) (V.synced volume.new) }
     ensures cause { IsErrOf result LogFault.Failed → Rose (V.faults volume.old) (V.faults volume.new) }
     ensures never_falls { V.faults volume.old ≤ V.faults volume.new }
 {
@@ -74,7 +76,7 @@ fn make_gate<V: Volume>(alloc: Global, volume: &mut V) -> Result<(), LogFault>
     ensures fault { IfErr result IsOther }
     ensures nothing_done { IsErrOf result LogFault.OutOfMemory → (V.bytes volume.new ≡ V.bytes volume.old) × (V.size volume.new ≡ V.size volume.old) }
     ensures images { IfSome (V.bytes volume.old) (λ _. (c : List ℕ) → V.was_image volume.new (V.moment volume.old) c → length c ≤ 1) }
-    ensures time { Elapses (V.moment volume.old) (V.moment volume.new) (V.was_image volume.old) (V.was_image volume.new) }
+    ensures time { Elapses (V.moment volume.old) (V.moment volume.new) (V.was_image volume.old) (V.was_image volume.new) (V.synced volume.old) (V.synced volume.new) }
     ensures cause { IsErrOf result LogFault.Failed → Rose (V.faults volume.old) (V.faults volume.new) }
     ensures never_falls { V.faults volume.old ≤ V.faults volume.new }
 {
@@ -94,7 +96,7 @@ fn close_gate<V: Volume>(volume: &mut V) -> Result<(), Failed>
     ensures told { OnOk result (V.bytes volume.new ≡ option_map (λ _. CLOSED ∷ []) (V.bytes volume.old)) }
     ensures settled { OnOk result (IsSettled (V.bytes volume.new) (V.is_image volume.new)) }
     ensures images { IfSome (V.bytes volume.old) (λ _. (c : List ℕ) → V.was_image volume.new (V.moment volume.old) c → length c ≤ 1) }
-    ensures time { Elapses (V.moment volume.old) (V.moment volume.new) (V.was_image volume.old) (V.was_image volume.new) }
+    ensures time { Elapses (V.moment volume.old) (V.moment volume.new) (V.was_image volume.old) (V.was_image volume.new) (V.synced volume.old) (V.synced volume.new) }
     ensures cause { OnErr result (Rose (V.faults volume.old) (V.faults volume.new)) }
     ensures never_falls { V.faults volume.old ≤ V.faults volume.new }
 {

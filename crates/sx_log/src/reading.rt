@@ -24,7 +24,7 @@ pub(crate) fn read_groups<V: Volume>(alloc: Global, volume: &mut V) -> Result<Lo
     ensures damaged { IfErr result (FaultExplains (V.bytes volume.old)) }
     ensures same_bytes { V.bytes volume.new ≡ V.bytes volume.old }
     ensures same_size { V.size volume.new ≡ V.size volume.old }
-    ensures images { LeavesImages (V.moment volume.old) (V.moment volume.new) (V.was_image volume.old) (V.was_image volume.new) (V.is_image volume.old) (V.is_image volume.new) }
+    ensures images { LeavesImages (V.moment volume.old) (V.moment volume.new) (V.was_image volume.old) (V.was_image volume.new) (V.synced volume.old) (V.synced volume.new) (V.is_image volume.old) (V.is_image volume.new) }
     ensures cause { IsErrOf result LogFault.Failed → Rose (V.faults volume.old) (V.faults volume.new) }
     ensures never_falls { V.faults volume.old ≤ V.faults volume.new }
 {
@@ -50,7 +50,7 @@ fn read_next<V: Volume>(
     ensures damaged { IfErr result (FaultExplains (V.bytes volume.old)) }
     ensures same_bytes { V.bytes volume.new ≡ V.bytes volume.old }
     ensures same_size { V.size volume.new ≡ V.size volume.old }
-    ensures images { LeavesImages (V.moment volume.old) (V.moment volume.new) (V.was_image volume.old) (V.was_image volume.new) (V.is_image volume.old) (V.is_image volume.new) }
+    ensures images { LeavesImages (V.moment volume.old) (V.moment volume.new) (V.was_image volume.old) (V.was_image volume.new) (V.synced volume.old) (V.synced volume.new) (V.is_image volume.old) (V.is_image volume.new) }
     ensures cause { IsErrOf result LogFault.Failed → Rose (V.faults volume.old) (V.faults volume.new) }
     ensures never_falls { V.faults volume.old ≤ V.faults volume.new }
 {
@@ -82,7 +82,7 @@ fn read_group<V: Volume>(
     ensures damaged { IfErr result (FaultTells (V.bytes volume.old) place time next) }
     ensures same_bytes { V.bytes volume.new ≡ V.bytes volume.old }
     ensures same_size { V.size volume.new ≡ V.size volume.old }
-    ensures images { LeavesImages (V.moment volume.old) (V.moment volume.new) (V.was_image volume.old) (V.was_image volume.new) (V.is_image volume.old) (V.is_image volume.new) }
+    ensures images { LeavesImages (V.moment volume.old) (V.moment volume.new) (V.was_image volume.old) (V.was_image volume.new) (V.synced volume.old) (V.synced volume.new) (V.is_image volume.old) (V.is_image volume.new) }
     ensures cause { IsErrOf result LogFault.Failed → Rose (V.faults volume.old) (V.faults volume.new) }
     ensures never_falls { V.faults volume.old ≤ V.faults volume.new }
 {
@@ -110,7 +110,7 @@ fn read_head<V: Volume>(volume: &mut V, place: u64) -> Result<Head, Failed>
     ensures head { IfOk result (λ head. IfSome (V.bytes volume.old) (λ all. take 16 (drop place all) ≡ head_bytes head.time head.next head.body)) }
     ensures same_bytes { V.bytes volume.new ≡ V.bytes volume.old }
     ensures same_size { V.size volume.new ≡ V.size volume.old }
-    ensures images { LeavesImages (V.moment volume.old) (V.moment volume.new) (V.was_image volume.old) (V.was_image volume.new) (V.is_image volume.old) (V.is_image volume.new) }
+    ensures images { LeavesImages (V.moment volume.old) (V.moment volume.new) (V.was_image volume.old) (V.was_image volume.new) (V.synced volume.old) (V.synced volume.new) (V.is_image volume.old) (V.is_image volume.new) }
     ensures cause { OnErr result (Rose (V.faults volume.old) (V.faults volume.new)) }
     ensures never_falls { V.faults volume.old ≤ V.faults volume.new }
 {
@@ -132,7 +132,7 @@ fn read_bytes<V: Volume>(
     ensures other { IfErr result IsOther }
     ensures same_bytes { V.bytes volume.new ≡ V.bytes volume.old }
     ensures same_size { V.size volume.new ≡ V.size volume.old }
-    ensures images { LeavesImages (V.moment volume.old) (V.moment volume.new) (V.was_image volume.old) (V.was_image volume.new) (V.is_image volume.old) (V.is_image volume.new) }
+    ensures images { LeavesImages (V.moment volume.old) (V.moment volume.new) (V.was_image volume.old) (V.was_image volume.new) (V.synced volume.old) (V.synced volume.new) (V.is_image volume.old) (V.is_image volume.new) }
     ensures cause { IsErrOf result LogFault.Failed → Rose (V.faults volume.old) (V.faults volume.new) }
     ensures never_falls { V.faults volume.old ≤ V.faults volume.new }
 {
@@ -148,7 +148,7 @@ pub(crate) fn byte_at<V: Volume>(volume: &mut V, place: u64) -> Result<u8, Faile
     ensures same_bytes { V.bytes volume.new ≡ V.bytes volume.old }
     ensures same_size { V.size volume.new ≡ V.size volume.old }
     ensures spare { V.spare volume.old ≤ V.spare volume.new }
-    ensures images { LeavesImages (V.moment volume.old) (V.moment volume.new) (V.was_image volume.old) (V.was_image volume.new) (V.is_image volume.old) (V.is_image volume.new) }
+    ensures images { LeavesImages (V.moment volume.old) (V.moment volume.new) (V.was_image volume.old) (V.was_image volume.new) (V.synced volume.old) (V.synced volume.new) (V.is_image volume.old) (V.is_image volume.new) }
     ensures cause { OnErr result (Rose (V.faults volume.old) (V.faults volume.new)) }
     ensures never_falls { V.faults volume.old ≤ V.faults volume.new }
 {

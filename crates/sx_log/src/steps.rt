@@ -6,7 +6,7 @@ ghost use Rattle.sx_layout.specs.Group.{group_bytes, group_limit};
 ghost use Rattle.sx_log.specs.Row.{shown};
 ghost use Rattle.sx_log.specs.Written.{with_group, IsBehind, Commits};
 ghost use Rattle.sx_volume.specs.Held.{IsHeldFor, held_piece};
-ghost use Rattle.sx_volume.specs.Images.{Only, IsWithin, Follows, Puts, Elapses};
+ghost use Rattle.sx_volume.specs.Images.{Only, IsWithin, Follows, Puts, Elapses, HasSynced};
 
 use crate::CommitFault;
 use crate::group::{CLOSED, OPEN, Row, sealed_bytes};
@@ -32,10 +32,11 @@ pub(crate) fn write_group<V: Volume>(
     ensures no_image_more { IsErrOf result CommitFault.OutOfMemory → IsWithin (V.is_image volume.old) (V.was_image volume.new (V.moment volume.old)) }
     ensures stage { IfErr result (λ fault. (stage : ℕ) → fault ≡ CommitFault.Failed stage → (stage ≡ 1) ⊎ (stage ≡ 2)) }
     ensures first_stage { IsErrOf result (CommitFault.Failed 1) → Follows (IsBehind gate) (V.is_image volume.old) (V.was_image volume.new (V.moment volume.old)) }
+    ensures second_stage { IsErrOf result (CommitFault.Failed 2) → IfSome (V.bytes volume.old) (λ _. HasSynced (V.moment volume.old) (V.synced volume.new)) }
     ensures during { IfSome (V.bytes volume.old) (λ all. Follows (Commits gate (shown row.now) all) (V.is_image volume.old) (V.was_image volume.new (V.moment volume.old))) }
     ensures cause { IfErr result (λ fault. (stage : ℕ) → fault ≡ CommitFault.Failed stage → Rose (V.faults volume.old) (V.faults volume.new)) }
     ensures never_falls { V.faults volume.old ≤ V.faults volume.new }
-    ensures time { Elapses (V.moment volume.old) (V.moment volume.new) (V.was_image volume.old) (V.was_image volume.new) }
+    ensures time { Elapses (V.moment volume.old) (V.moment volume.new) (V.was_image volume.old) (V.was_image volume.new) (V.synced volume.old) (V.synced volume.new) }
 {
     prepare(alloc, volume, gate, row)?;
     stage(volume, gate).map_err(|_| CommitFault::Failed { stage: 1 })?;
@@ -53,7 +54,7 @@ fn prepare<V: Volume>(alloc: Global, volume: &mut V, gate: u64, row: &Row) -> Re
     ensures same_size { V.size volume.new ≡ V.size volume.old }
     ensures never_falls { V.faults volume.old ≤ V.faults volume.new }
     ensures no_image_more { IsWithin (V.is_image volume.old) (V.was_image volume.new (V.moment volume.old)) }
-    ensures time { Elapses (V.moment volume.old) (V.moment volume.new) (V.was_image volume.old) (V.was_image volume.new) }
+    ensures time { Elapses (V.moment volume.old) (V.moment volume.new) (V.was_image volume.old) (V.was_image volume.new) (V.synced volume.old) (V.synced volume.new) }
 {
     let piece = Arc::new(alloc, sealed_bytes(alloc, row)?)?;
     volume.ready(alloc, 5)?;
@@ -73,8 +74,9 @@ fn stage<V: Volume>(volume: &mut V, gate: u64) -> Result<(), Failed>
     ensures spare { V.spare volume.old ≤ V.spare volume.new + 3 }
     ensures cause { OnErr result (Rose (V.faults volume.old) (V.faults volume.new)) }
     ensures never_falls { V.faults volume.old ≤ V.faults volume.new }
+    ensures synced { OnOk result (IfSome (V.bytes volume.new) (λ _. HasSynced (V.moment volume.old) (V.synced volume.new))) }
     ensures images { Follows (IsBehind gate) (V.is_image volume.old) (V.was_image volume.new (V.moment volume.old)) }
-    ensures time { Elapses (V.moment volume.old) (V.moment volume.new) (V.was_image volume.old) (V.was_image volume.new) }
+    ensures time { Elapses (V.moment volume.old) (V.moment volume.new) (V.was_image volume.old) (V.was_image volume.new) (V.synced volume.old) (V.synced volume.new) }
 {
     cut_behind(volume, gate)?;
     volume.append()?;
@@ -92,7 +94,7 @@ fn cut_behind<V: Volume>(volume: &mut V, gate: u64) -> Result<(), Failed>
     ensures cause { OnErr result (Rose (V.faults volume.old) (V.faults volume.new)) }
     ensures never_falls { V.faults volume.old ≤ V.faults volume.new }
     ensures images { Follows (IsBehind gate) (V.is_image volume.old) (V.was_image volume.new (V.moment volume.old)) }
-    ensures time { Elapses (V.moment volume.old) (V.moment volume.new) (V.was_image volume.old) (V.was_image volume.new) }
+    ensures time { Elapses (V.moment volume.old) (V.moment volume.new) (V.was_image volume.old) (V.was_image volume.new) (V.synced volume.old) (V.synced volume.new) }
 {
     let len = volume.len();
     if gate + 1 < len {
@@ -111,7 +113,7 @@ fn open_gate<V: Volume>(volume: &mut V, gate: u64) -> Result<(), Failed>
     ensures cause { OnErr result (Rose (V.faults volume.old) (V.faults volume.new)) }
     ensures never_falls { V.faults volume.old ≤ V.faults volume.new }
     ensures images { Follows (Puts gate) (V.is_image volume.old) (V.was_image volume.new (V.moment volume.old)) }
-    ensures time { Elapses (V.moment volume.old) (V.moment volume.new) (V.was_image volume.old) (V.was_image volume.new) }
+    ensures time { Elapses (V.moment volume.old) (V.moment volume.new) (V.was_image volume.old) (V.was_image volume.new) (V.synced volume.old) (V.synced volume.new) }
 {
     volume.put_byte(gate, OPEN)?;
     volume.sync()

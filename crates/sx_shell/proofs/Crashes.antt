@@ -14,7 +14,7 @@ use Rattle.sx_model.specs.Value.{Value, number}
 use Rattle.sx_run.proofs.Legal.{IsLegalCourse, GoesOn, next_legal}
 use Rattle.sx_run.specs.Run.{Course, current, next_commit}
 use Rattle.sx_shell.proofs.Groups.{groups_from-append, length-groups_from, last_time-groups_from, replay-append}
-use Rattle.sx_shell.specs.Crash.{Climbs, IsFront, StandsWithNext, StandsDuring, StandsAtEnd, IsSafe, HasBetween, next_group, HasNext}
+use Rattle.sx_shell.specs.Crash.{Climbs, IsFront, FailedSecond, StandsWithNext, StandsAtEnd, IsSafe, HasClimbed, next_group, HasNext}
 use Rattle.sx_shell.specs.Shows.{Shows}
 use Rattle.sx_shell.specs.declared.desk.Desk.{Desk}
 use Rattle.sx_volume.specs.Images.{Elapses}
@@ -31,46 +31,6 @@ holds image (group ∷ groups) has =
 legal_front : (front rest : List Commit) (time : ℤ) (state : State) → AreLegal time state (front ++ rest) → AreLegal time state front
 legal_front [] rest time state legal = tt
 legal_front (commit ∷ front) rest time state legal = (legal.0, legal.1, legal.2, legal_front front rest commit.time (after commit.edits state) legal.3)
-
--- the first groups are those of the first commits
-first_commits : (commits : List Commit) (state : State) (groups more : List Group) → groups_from state commits ≡ groups ++ more
-    → (front : List Commit) × IsFront front commits × (groups ≡ groups_from state front)
-first_commits commits state [] more is = ([], (commits, refl), refl)
-first_commits [] state (group ∷ groups) more is = absurd (cc is)
-first_commits (commit ∷ commits) state (group ∷ groups) more is =
-    let first : group_of commit (after commit.edits state) ≡ group = cc is in
-    let rest : groups_from (after commit.edits state) commits ≡ groups ++ more = cc is in
-    let front = first_commits commits (after commit.edits state) groups more rest in (
-      commit ∷ front.0,
-      (front.1.0, ap (λ (list : List Commit). commit ∷ list) front.1.1),
-      ap (λ (g : Group). g ∷ groups) (sym first) ∙ ap (λ (list : List Group). group_of commit (after commit.edits state) ∷ list) front.2,
-    )
-
--- of two fronts the shorter begins the longer
-two_fronts : (a b whole : List Commit) → IsFront a whole → IsFront b whole → length a ≤ length b → IsFront a b
-two_fronts [] b whole front other le = (b, refl)
-two_fronts (x ∷ a) [] whole front other le = absurd (omega (arith, le))
-two_fronts (x ∷ a) (y ∷ b) whole front other le =
-    let both : x ∷ (a ++ front.0) ≡ y ∷ (b ++ other.0) = sym front.1 ∙ other.1 in
-    let first : x ≡ y = cc both in
-    let rest : a ++ front.0 ≡ b ++ other.0 = cc both in
-    let tail = two_fronts a b (a ++ front.0) (front.0, refl) (other.0, rest) (omega (arith, le)) in
-    (tail.0, ap (λ (c : Commit). c ∷ b) (sym first) ∙ ap (λ (list : List Commit). x ∷ list) tail.1)
-
--- an image with some groups of a run stands for some of its commits
-pub between_stands : (start end : Course) (image : List ℕ) → IsLegal end.commits → GoesOn start end → HasBetween (groups_of start.commits) (groups_of end.commits) image
-    → (commits : List Commit) × IsFront start.commits commits × IsFront commits end.commits × Stands image commits
-between_stands start end image legal on has =
-    let groups : List Group = has.0 in
-    let front = first_commits end.commits empty_document groups has.2.0 has.2.1 in
-    let no_more : length start.commits ≤ length front.0 =
-    omega (arith, length-groups_from start.commits empty_document, length-groups_from front.0 empty_document, ap length has.1.1, ap length front.2, length-append (groups_of start.commits) has.1.0) in
-    let legal_now : IsLegal front.0 = legal_front front.0 front.1.0 first_time empty_document (subst (λ (commits : List Commit). IsLegal commits) front.1.1 legal) in (
-      front.0,
-      two_fronts start.commits front.0 end.commits on front.1 no_more,
-      front.1,
-      (legal_now, holds image (groups_of front.0) (subst (λ (list : List Group). HasGroups image list) front.2 has.3)),
-    )
 
 -- the group of the desk's next commit is that of the course's
 next_shown : (desk : Desk) (course : Course) (moment : ℤ) → Shows desk course → next_group desk moment ≡ group_of (next_commit course moment) (current course)
@@ -100,27 +60,42 @@ left_stands image c commits stands (inr short) = (stands.0, by stands.1)
     by (inr long) = absurd (omega (arith, long.0, short.0))
 
 -- From an earlier moment on, from which each image stands for the same.
-climbs_earlier : {A : Type 0} (stands : List A → List ℕ → Type 0) (other : List ℕ → Type 0) (was : ℕ → List ℕ → Type 0) (from mid now : ℕ) (these more : List A)
-    → from ≤ mid → ((image : List ℕ) → was from image → stands these image ⊎ was mid image) → Climbs stands other was mid now these more → Climbs stands other was from now these more
-climbs_earlier stands other was from mid now these [] le step climbs =
+climbs_earlier : {A : Type 0} (stands : List A → List ℕ → Type 0) (was : ℕ → List ℕ → Type 0) (from mid last : ℕ) (these more : List A)
+    → from ≤ mid → ((image : List ℕ) → was from image → stands these image ⊎ was mid image) → Climbs stands was mid last these more → Climbs stands was from last these more
+climbs_earlier stands was from mid last these [] le step climbs =
     (omega (arith, le, climbs.0), λ image left. ⊎_elim (λ (has : stands these image). inl has) (λ (later : was mid image). climbs.1 image later) (step image left))
-climbs_earlier stands other was from mid now these (x ∷ more) le step climbs =
+climbs_earlier stands was from mid last these (x ∷ more) le step climbs =
     (climbs.0, omega (arith, le, climbs.1), λ image left. ⊎_elim (λ (has : stands these image). inl has) (λ (later : was mid image). climbs.2 image later) (step image left), climbs.3)
+
+-- While commits come one after another, each image stands for the first of them, or comes later.
+each_stands : (start end : Course) (was : ℕ → List ℕ → Type 0) (from last : ℕ) (these new : List Commit) → IsFront start.commits these → end.commits ≡ these ++ new
+    → Climbs (λ commits image. Stands image commits) was from last these new
+    → (image : List ℕ) → was from image → ((commits : List Commit) × IsFront start.commits commits × IsFront commits end.commits × Stands image commits) ⊎ was last image
+each_stands start end was from last these [] front on climbs image left =
+    ⊎_elim (λ (here : Stands image these). inl (these, front, ([], on), here)) (λ (later : was last image). inr later) (climbs.1 image left)
+each_stands start end was from last these (k ∷ new) front on climbs image left =
+    let longer : IsFront start.commits (these ++ k ∷ []) = (front.0 ++ k ∷ [], ap (λ (commits : List Commit). commits ++ k ∷ []) front.1 ∙ append_assoc start.commits front.0 (k ∷ [])) in
+    let rest : end.commits ≡ (these ++ k ∷ []) ++ new = on ∙ sym (append_assoc these (k ∷ []) new) in
+    ⊎_elim (λ (here : Stands image these). inl (these, front, (k ∷ new, on), here))
+    (λ (more : Stands image (these ++ k ∷ []) ⊎ was climbs.0 image).
+    ⊎_elim (λ (one : Stands image (these ++ k ∷ [])). inl (these ++ k ∷ [], longer, (new, rest), one))
+    (λ (later : was climbs.0 image). each_stands start end was climbs.0 last (these ++ k ∷ []) new longer rest climbs.3 image later) more)
+    (climbs.2 image left)
 
 groups_from-split : (cs ks : List Commit) (state : State) → groups_from state (cs ++ ks) ≡ groups_from state cs ++ groups_from (replay cs state) ks
 groups_from-split [] ks state = refl
 groups_from-split (commit ∷ cs) ks state = ap (λ (groups : List Group). group_of commit (after commit.edits state) ∷ groups) (groups_from-split cs ks (after commit.edits state))
 
 -- where groups come one after another, so do their commits
-climbs_commits : (other ended : List ℕ → Type 0) (was : ℕ → List ℕ → Type 0) (from now : ℕ) (cs ks : List Commit) → IsLegal (cs ++ ks) → ((image : List ℕ) → other image → ended image)
-    → Climbs (λ groups image. HasGroups image groups) other was from now (groups_of cs) (groups_from (replay cs empty_document) ks)
-    → Climbs (λ commits image. Stands image commits) ended was from now cs ks
-climbs_commits other ended was from now cs [] legal step climbs =
+climbs_commits : (was : ℕ → List ℕ → Type 0) (from last : ℕ) (cs ks : List Commit) → IsLegal (cs ++ ks)
+    → Climbs (λ groups image. HasGroups image groups) was from last (groups_of cs) (groups_from (replay cs empty_document) ks)
+    → Climbs (λ commits image. Stands image commits) was from last cs ks
+climbs_commits was from last cs [] legal climbs =
     let here : IsLegal cs = legal_front cs [] first_time empty_document legal in (
       climbs.0,
-      λ image left. ⊎_elim (λ (has : HasGroups image (groups_of cs)). inl (here, holds image (groups_of cs) has)) (λ (o : other image). inr (step image o)) (climbs.1 image left),
+      λ image left. ⊎_elim (λ (has : HasGroups image (groups_of cs)). inl (here, holds image (groups_of cs) has)) (λ (later : was last image). inr later) (climbs.1 image left),
     )
-climbs_commits other ended was from now cs (k ∷ ks) legal step climbs =
+climbs_commits was from last cs (k ∷ ks) legal climbs =
     let state : State = replay cs empty_document in
     let group : Group = group_of k (after k.edits state) in
     let here : IsLegal cs = legal_front cs (k ∷ ks) first_time empty_document legal in
@@ -128,9 +103,9 @@ climbs_commits other ended was from now cs (k ∷ ks) legal step climbs =
     let next : IsLegal (cs ++ k ∷ []) = legal_front (cs ++ k ∷ []) ks first_time empty_document rest in
     let groups : groups_of (cs ++ k ∷ []) ≡ groups_of cs ++ group ∷ [] = groups_from-append cs k empty_document in
     let now_state : replay (cs ++ k ∷ []) empty_document ≡ after k.edits state = replay-append cs k empty_document in
-    let on : Climbs (λ gs image. HasGroups image gs) other was climbs.0 now (groups_of (cs ++ k ∷ [])) (groups_from (replay (cs ++ k ∷ []) empty_document) ks) =
-    subst (λ (gs : List Group). Climbs (λ list image. HasGroups image list) other was climbs.0 now gs (groups_from (replay (cs ++ k ∷ []) empty_document) ks)) (sym groups)
-    (subst (λ (s : State). Climbs (λ list image. HasGroups image list) other was climbs.0 now (groups_of cs ++ group ∷ []) (groups_from s ks)) (sym now_state) climbs.3) in (
+    let on : Climbs (λ gs image. HasGroups image gs) was climbs.0 last (groups_of (cs ++ k ∷ [])) (groups_from (replay (cs ++ k ∷ []) empty_document) ks) =
+    subst (λ (gs : List Group). Climbs (λ list image. HasGroups image list) was climbs.0 last gs (groups_from (replay (cs ++ k ∷ []) empty_document) ks)) (sym groups)
+    (subst (λ (s : State). Climbs (λ list image. HasGroups image list) was climbs.0 last (groups_of cs ++ group ∷ []) (groups_from s ks)) (sym now_state) climbs.3) in (
       climbs.0,
       climbs.1,
       λ image left.
@@ -141,7 +116,7 @@ climbs_commits other ended was from now cs (k ∷ ks) legal step climbs =
           inr (inl (next, holds image (groups_of (cs ++ k ∷ [])) (subst (λ (gs : List Group). HasGroups image gs) (sym groups) one))))
           (λ (later : was climbs.0 image). inr (inr later)) more)
           (climbs.2 image left),
-      climbs_commits other ended was climbs.0 now (cs ++ k ∷ []) ks rest step on,
+      climbs_commits was climbs.0 last (cs ++ k ∷ []) ks rest on,
     )
 
 -- The groups that came are those of the commits that came.
@@ -152,67 +127,74 @@ came start end old new more commits shows_old shows_new on grew =
     (ap (λ (list : List Group). list ++ more) (sym shows_old) ∙ sym grew ∙ shows_new ∙ ap (λ (list : List Commit). groups_of list) on ∙ groups_from-split start.commits commits empty_document)
 
 -- The opening came to the success of its sync, and then a script ran.
-pub safe_run : (start end : Course) (failed : Type 0) (image : List ℕ) (first mid last : ℕ) (before is_image : List ℕ → Type 0) (was is : ℕ → List ℕ → Type 0) (old new : Desk)
-    → Stands image start.commits → IsSynced image first mid before was → Elapses mid last was is
-    → old.log ≡ groups_of start.commits → new.log ≡ groups_of end.commits → (failed → Shows new end) → IsLegalCourse end → GoesOn start end
-    → ((c : List ℕ) → is mid c → HasBetween old.log new.log c ⊎ (failed × HasNext new c))
-    → ((c : List ℕ) → is_image c → HasGroups c new.log ⊎ (failed × HasNext new c))
-    → (more : List Group) × (new.log ≡ old.log ++ more) × Climbs (λ groups c. HasGroups c groups) (λ c. failed × HasNext new c) is mid last old.log more
-    → IsSafe start end failed first last before is_image is
-safe_run start end failed image first mid last before is_image was is old new stands synced time shows_old shows_new shows legal on during now climbs = record {
+pub safe_run : (start end : Course) (failed ended : Type 0) (image : List ℕ) (first mid now : ℕ) (before is_image : List ℕ → Type 0) (was is : ℕ → List ℕ → Type 0) (x y z : ℕ → Type 0) (old new : Desk)
+    → Stands image start.commits → IsSynced image first mid before was x y → Elapses mid now was is y z
+    → old.log ≡ groups_of start.commits → new.log ≡ groups_of end.commits → (failed → Shows new end × ended) → IsLegalCourse end → GoesOn start end
+    → ((t : ℕ) (c : List ℕ) → t ≤ now → is_image c → is t c) → HasClimbed is z mid now old new failed
+    → IsSafe start end ended first now before is_image is x z
+safe_run start end failed ended image first mid now before is_image was is x y z old new stands synced time shows_old shows_new shows legal on counts_now climbs = record {
   moment = synced.moment;
-  no_earlier = synced.no_earlier;
-  no_later = omega (arith, synced.no_later, time.later);
+  later = synced.later;
+  synced = time.syncs synced.moment synced.here;
+  first = λ t lt sync. synced.first t lt (time.no_sync_before t (omega (arith, lt, synced.no_later)) sync);
   up_to = λ c left.
       ⊎_elim
       (λ (earlier : was first c). ⊎_elim (λ (old_one : before c). inl old_one) (λ (since : was synced.moment c). inr (time.keeps synced.moment c synced.no_later since)) (synced.up_to c earlier))
       (λ (here : is mid c). inr (time.counts synced.moment c synced.no_later here))
-      (time.nothing_else first c (omega (arith, synced.no_earlier, synced.no_later)) left);
-  since = λ c left.
-      ⊎_elim
-      (λ (earlier : was synced.moment c). inl (start.commits, ([], sym (append-nil start.commits)), on, left_stands image c start.commits stands (synced.since c earlier)))
-      (λ (here : is mid c). by c (during c here))
-      (time.nothing_else synced.moment c synced.no_later left);
+      (time.nothing_else first c (omega (arith, synced.later, synced.no_later)) left);
   new = on.0;
   commits = on.1;
-  held = climbs_earlier (λ commits c. Stands c commits) (λ c. failed × StandsWithNext end c) is synced.moment mid last start.commits on.0 synced.no_later
-      (λ c left.
-      ⊎_elim (λ (earlier : was synced.moment c). inl (left_stands image c start.commits stands (synced.since c earlier))) (λ (here : is mid c). inr here)
-      (time.nothing_else synced.moment c synced.no_later left))
-      (climbs_commits (λ c. failed × HasNext new c) (λ c. failed × StandsWithNext end c) is mid last start.commits on.0
-      (subst (λ (commits : List Commit). IsLegal commits) on.1 legal.commits) (λ c next. (next.0, next_stands new end c (shows next.0) legal next.1)) shown);
-  at_end = λ c left. at c (now c left);
+  last = climbs.last;
+  held = held;
+  no_later = climbs.no_later;
+  since_last = at_last;
+  since = λ c left.
+      ⊎_elim (λ (some : (commits : List Commit) × IsFront start.commits commits × IsFront commits end.commits × Stands c commits). inl some)
+      (λ (later : is climbs.last c).
+      ⊎_elim (λ (all : Stands c end.commits). inl (end.commits, on, ([], sym (append-nil end.commits)), all)) (λ (next : FailedSecond ended climbs.last z × StandsWithNext end c). inr next) (at_last c later))
+      (each_stands start end is synced.moment climbs.last start.commits on.0 ([], sym (append-nil start.commits)) on.1 held c left);
+  at_end = λ c left. at_last c (counts_now climbs.last c climbs.no_later left);
 }
   where
-    shown : Climbs (λ groups c. HasGroups c groups) (λ c. failed × HasNext new c) is mid last (groups_of start.commits) (groups_from (replay start.commits empty_document) on.0)
+    shown : Climbs (λ groups c. HasGroups c groups) is mid climbs.last (groups_of start.commits) (groups_from (replay start.commits empty_document) on.0)
     shown =
-        subst (λ (groups : List Group). Climbs (λ list c. HasGroups c list) (λ c. failed × HasNext new c) is mid last groups (groups_from (replay start.commits empty_document) on.0)) shows_old
-        (subst (λ (groups : List Group). Climbs (λ list c. HasGroups c list) (λ c. failed × HasNext new c) is mid last old.log groups)
-        (came start end old.log new.log climbs.0 on.0 shows_old shows_new on.1 climbs.1) climbs.2)
+        subst (λ (groups : List Group). Climbs (λ list c. HasGroups c list) is mid climbs.last groups (groups_from (replay start.commits empty_document) on.0)) shows_old
+        (subst (λ (groups : List Group). Climbs (λ list c. HasGroups c list) is mid climbs.last old.log groups)
+        (came start end old.log new.log climbs.more on.0 shows_old shows_new on.1 climbs.grew) climbs.climbs)
 
-    by : (c : List ℕ) → HasBetween old.log new.log c ⊎ (failed × HasNext new c) → StandsDuring start end failed c
-    by c (inl between) =
-        inl (between_stands start end c legal.commits on
-        (subst (λ (list : List Group). HasBetween list (groups_of end.commits) c) shows_old (subst (λ (list : List Group). HasBetween old.log list c) shows_new between)))
-    by c (inr next) = inr (next.0, next_stands new end c (shows next.0) legal next.1)
+    held : Climbs (λ commits c. Stands c commits) is synced.moment climbs.last start.commits on.0
+    held =
+        climbs_earlier (λ commits c. Stands c commits) is synced.moment mid climbs.last start.commits on.0 synced.no_later
+        (λ c left.
+        ⊎_elim (λ (earlier : was synced.moment c). inl (left_stands image c start.commits stands (synced.since c earlier))) (λ (here : is mid c). inr here)
+        (time.nothing_else synced.moment c synced.no_later left))
+        (climbs_commits is mid climbs.last start.commits on.0 (subst (λ (commits : List Commit). IsLegal commits) on.1 legal.commits) shown)
 
-    at : (c : List ℕ) → HasGroups c new.log ⊎ (failed × HasNext new c) → StandsAtEnd end failed c
-    at c (inl has) = inl (legal.commits, holds c (groups_of end.commits) (subst (λ (list : List Group). HasGroups c list) shows_new has))
-    at c (inr next) = inr (next.0, next_stands new end c (shows next.0) legal next.1)
+    at_last : (c : List ℕ) → is climbs.last c → StandsAtEnd end (FailedSecond ended climbs.last z) c
+    at_last c left =
+        ⊎_elim (λ (has : HasGroups c new.log). inl (legal.commits, holds c (groups_of end.commits) (subst (λ (list : List Group). HasGroups c list) shows_new has)))
+        (λ (next : FailedSecond failed climbs.last z × HasNext new c). inr (((shows next.0.0).1, next.0.1), next_stands new end c (shows next.0.0).0 legal next.1))
+        (climbs.since_last c left)
 
 -- The opening came to the success of its sync, and no line was run.
-pub safe_none : (start : Course) (failed : Type 0) (image : List ℕ) (first last : ℕ) (before is_image : List ℕ → Type 0) (was : ℕ → List ℕ → Type 0)
-    → Stands image start.commits → IsSynced image first last before was → ((t : ℕ) (c : List ℕ) → t ≤ last → is_image c → was t c)
-    → IsSafe start start failed first last before is_image was
-safe_none start failed image first last before is_image was stands synced counts_now = record {
+pub safe_none : (start : Course) (failed : Type 0) (image : List ℕ) (first now : ℕ) (before is_image : List ℕ → Type 0) (was : ℕ → List ℕ → Type 0) (x y : ℕ → Type 0)
+    → Stands image start.commits → IsSynced image first now before was x y → ((t : ℕ) (c : List ℕ) → t ≤ now → is_image c → was t c)
+    → IsSafe start start failed first now before is_image was x y
+safe_none start failed image first now before is_image was x y stands synced counts_now = record {
   moment = synced.moment;
-  no_earlier = synced.no_earlier;
-  no_later = synced.no_later;
+  later = synced.later;
+  synced = synced.here;
+  first = synced.first;
   up_to = synced.up_to;
-  since = λ c left.
-      inl (start.commits, ([], sym (append-nil start.commits)), ([], sym (append-nil start.commits)), left_stands image c start.commits stands (synced.since c left));
   new = [];
   commits = sym (append-nil start.commits);
-  held = (synced.no_later, λ c left. inl (left_stands image c start.commits stands (synced.since c left)));
-  at_end = λ c left. inl (left_stands image c start.commits stands (synced.since c (counts_now synced.moment c synced.no_later left)));
+  last = synced.moment;
+  held = (omega arith, λ c left. inr left);
+  no_later = synced.no_later;
+  since_last = λ c left. inl (all c left);
+  since = λ c left. inl (start.commits, ([], sym (append-nil start.commits)), ([], sym (append-nil start.commits)), all c left);
+  at_end = λ c left. inl (all c (counts_now synced.moment c synced.no_later left));
 }
+  where
+    all : (c : List ℕ) → was synced.moment c → Stands c start.commits
+    all c left = left_stands image c start.commits stands (synced.since c left)

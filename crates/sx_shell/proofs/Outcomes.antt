@@ -1,9 +1,10 @@
 -- What holds of each outcome of a run.
 use Rattle.std.proofs.Common.{◌≡◌, ◌∙◌, ◌≤◌, ℕ, ℤ, ◌⊎◌, is_some, inl, inr, List, [], ◌++◌, Option, None, Some, IfSome, refl, ap, sym, subst, append_assoc, append-nil}
 use Rattle.sx_bytes.specs.declared.damage.Damage.{Damage}
+use Rattle.std.specs.Option.{option_map}
 use Rattle.std.proofs.lemmas.Bool.{false≢true}
 use Rattle.sx_layout.specs.Stands.{Stands}
-use Rattle.sx_log.specs.Reading.{IsOther, IsSynced}
+use Rattle.sx_log.specs.Reading.{IsOther, IsSynced, IsUnsynced}
 use Rattle.sx_log.specs.declared.fault.LogFault.{LogFault}
 use Rattle.sx_log.specs.declared.fault.LogFault.TheVariants as log
 use Rattle.sx_model.specs.Commit.{Commit, IsLegal}
@@ -12,7 +13,6 @@ use Rattle.sx_run.specs.Lines.{lines_of, ended_lines_of}
 use Rattle.sx_run.specs.Run.{Course, started}
 use Rattle.sx_shell.proofs.Crashes.{safe_none}
 use Rattle.sx_shell.specs.Crash.{IsBeforeSync, IsSafe, IsUnopened}
-use Rattle.sx_volume.specs.Images.{IsWithin}
 use Rattle.sx_shell.specs.Ends.{IsAfterOpening}
 use Rattle.sx_shell.specs.Outcome.{Outcome}
 use Rattle.sx_shell.specs.declared.status.Status.{Status}
@@ -60,19 +60,24 @@ no_fault OutOfMemory after read write volume = inr refl
 pub no_damage : (status : Status) (damage : Damage) → IsAfterOpening status → status ≡ Damaged damage → ⊥
 no_damage status damage after is = subst IsAfterOpening is after
 
+-- bytes of which each comes from another one are told where those are
+pub told_from : (f : List ℕ → List ℕ) (bytes now : Option (List ℕ)) → now ≡ option_map f bytes → is_some now ≡ is_some bytes
+told_from f None now is = ap (λ (b : Option (List ℕ)). is_some b) is
+told_from f (Some all) now is = ap (λ (b : Option (List ℕ)). is_some b) is
+
 -- what holds where bytes are told, which are told where those at the start are
 pub when_told : (P : Type 0) (bytes now : Option (List ℕ)) (image : List ℕ) → bytes ≡ Some image → is_some now ≡ is_some bytes → IfSome now (λ _. P) → P
 when_told P bytes None image is told holds = absurd (false≢true (told ∙ ap (λ (b : Option (List ℕ)). is_some b) is))
 when_told P bytes (Some all) image is told holds = holds
 
 -- the opening was refused
-pub refused : (start : Course) (status : Status) (failed : Type 0) (image : List ℕ) (first last : ℕ) (before is_image : List ℕ → Type 0) (was : ℕ → List ℕ → Type 0)
-    → Stands image start.commits → IsBeforeSync status → ((t : ℕ) (c : List ℕ) → t ≤ last → is_image c → was t c) → IsSynced image first last before was ⊎ IsWithin before (was first)
-    → IsSafe start start failed first last before is_image was ⊎ IsUnopened start start status [] first before was
-refused start status failed image first last before is_image was stands early counts_now (inl synced) =
-    inl (safe_none start failed image first last before is_image was stands synced counts_now)
-refused start status failed image first last before is_image was stands early counts_now (inr within) =
-    inr (record { early = early; no_line = refl; no_reply = refl; images = within })
+pub refused : (start : Course) (status : Status) (failed : Type 0) (image : List ℕ) (first now : ℕ) (before is_image : List ℕ → Type 0) (was : ℕ → List ℕ → Type 0) (x y : ℕ → Type 0)
+    → Stands image start.commits → IsBeforeSync status → ((t : ℕ) (c : List ℕ) → t ≤ now → is_image c → was t c) → IsSynced image first now before was x y ⊎ IsUnsynced first before was x y
+    → IsSafe start start failed first now before is_image was x y ⊎ IsUnopened start start status [] first before was x y
+refused start status failed image first now before is_image was x y stands early counts_now (inl synced) =
+    inl (safe_none start failed image first now before is_image was x y stands synced counts_now)
+refused start status failed image first now before is_image was x y stands early counts_now (inr unsynced) =
+    inr (record { no_sync = unsynced.no_sync; early = early; no_line = refl; no_reply = refl; images = unsynced.up_to })
 
 pub not_other : (fault : LogFault) (damage : Damage) → fault ≡ log.Damaged damage → IsOther fault → ⊥
 not_other fault damage is (inl failed) = cc (is, failed)

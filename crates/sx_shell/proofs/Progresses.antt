@@ -100,7 +100,7 @@ line_ended start input before left written old desk moments rest out course ende
   λ fault. absurd (cc fault),
 )
 line_ended start input before left written old desk moments rest out course ended line front more is_left lines ran shows is VolumeFault served =
-    (rest, out, course, is_left, served.0, inr (ended, line, more, lines, said line front (command commit) is served.1, ran), same_log old desk course served.2 shows, λ fault. same_shows old desk course served.2 shows)
+    (rest, out, course, is_left, served.0, inr (ended, line, more, lines, said line front (command commit) is served.1, ran), same_log old desk course served.2 shows, λ fault. (same_shows old desk course served.2 shows, (ended, line, more, lines, said line front (command commit) is served.1, ran)))
 line_ended start input before left written old desk moments rest out course ended line front more is_left lines ran shows is OutOfMemory served =
     (rest, out, course, is_left, served.0, (ended, line ∷ more, lines, ran), same_log old desk course served.1 shows, λ fault. absurd (cc fault))
 line_ended start input before left written old desk moments rest out course ended line front more is_left lines ran shows is Done served = absurd served

@@ -1,5 +1,5 @@
 -- What a crash leaves of a volume over which a script runs.
-use Rattle.std.specs.Prelude.{ℕ, ℤ, ◌≡◌, ◌≤◌, ◌⊎◌, List, [], ◌∷◌, ◌++◌, Option, IfSome, FitsSigned}
+use Rattle.std.specs.Prelude.{ℕ, ℤ, ◌≡◌, ◌<◌, ◌≤◌, ◌⊎◌, List, [], ◌∷◌, ◌++◌, Option, IfSome, FitsSigned}
 use Rattle.std.specs.Int.{int_max, w64}
 use Rattle.std.specs.Option.{option_map}
 use Rattle.sx_layout.specs.Group.{Group, HasGroups, last_time}
@@ -10,6 +10,7 @@ use Rattle.sx_run.specs.Run.{Course, next_commit}
 use Rattle.sx_shell.specs.declared.desk.Desk.{Desk}
 use Rattle.sx_shell.specs.declared.status.Status.{Status}
 use Rattle.sx_shell.specs.declared.status.Status.TheVariants.{Done, Usage, ReadFault, WriteFault, VolumeFault, Damaged, OutOfMemory}
+use Rattle.sx_volume.specs.Images.{NoSync, HasSynced}
 
 -- the list begins with these
 abbrev pub IsFront : {A : Type 0} → List A → List A → Type 0
@@ -19,37 +20,46 @@ IsFront {A} front whole = (more : List A) × (whole ≡ front ++ more)
 abbrev pub StandsWithNext : Course → List ℕ → Type 0
 StandsWithNext end image = (moment : ℤ) × FitsSigned w64 moment × Stands image (end.commits ++ next_commit end moment ∷ [])
 
--- The image stands for the first commits of the run, with all from its start, or, where a commit failed, for all with that one.
+-- A commit failed at its second stage: since this moment a sync, that of its group, had succeeded.
+abbrev pub FailedSecond : Type 0 → ℕ → (ℕ → Type 0) → Type 0
+FailedSecond failed from has = failed × HasSynced from has
+
+-- The image stands for all commits of the run, or, where a commit failed at its second stage, for these with that one.
+abbrev pub StandsAtEnd : Course → Type 0 → List ℕ → Type 0
+StandsAtEnd end failed image = Stands image end.commits ⊎ (failed × StandsWithNext end image)
+
+-- The image stands for the first commits of the run, with all from its start, or, where a commit failed at its second stage, for
+-- all with that one.
 abbrev pub StandsDuring : Course → Course → Type 0 → List ℕ → Type 0
 StandsDuring start end failed image =
     ((commits : List Commit) × IsFront start.commits commits × IsFront commits end.commits × Stands image commits)
     ⊎ (failed × StandsWithNext end image)
 
--- The image stands for the commits of the run, or, where a commit failed, for these or for these with that one.
-abbrev pub StandsAtEnd : Course → Type 0 → List ℕ → Type 0
-StandsAtEnd end failed image = Stands image end.commits ⊎ (failed × StandsWithNext end image)
-
 -- From one moment on each image stands for these; while the next one comes, for these with or without it; and from a later moment
--- on, when it had come, the same goes on with it among these. After the last one an image may also be another one, as said.
-abbrev pub Climbs : {A : Type 0} → (List A → List ℕ → Type 0) → (List ℕ → Type 0) → (ℕ → List ℕ → Type 0) → ℕ → ℕ → List A → List A → Type 0
-Climbs stands other was from now these [] = (from ≤ now) × ((image : List ℕ) → was from image → stands these image ⊎ other image)
-Climbs stands other was from now these (x ∷ more) =
+-- on, when it had come, the same goes on with it among these, up to the last moment. From that on nothing is said.
+abbrev pub Climbs : {A : Type 0} → (List A → List ℕ → Type 0) → (ℕ → List ℕ → Type 0) → ℕ → ℕ → List A → List A → Type 0
+Climbs stands was from last these [] = (from ≤ last) × ((image : List ℕ) → was from image → stands these image ⊎ was last image)
+Climbs stands was from last these (x ∷ more) =
     (later : ℕ) × (from ≤ later) × ((image : List ℕ) → was from image → stands these image ⊎ stands (these ++ x ∷ []) image ⊎ was later image)
-    × Climbs stands other was later now (these ++ x ∷ []) more
+    × Climbs stands was later last (these ++ x ∷ []) more
 
--- From a moment on, at which the opening's sync had succeeded, each image stands for commits of the run. The commits come one
--- after another, and each is held by every image from a moment on. Each image before the opening's sync is one that the volume had
--- at the start.
-pub record IsSafe (start end : Course) (failed : Type 0) (from now : ℕ) (before is_image : List ℕ → Type 0) (was : ℕ → List ℕ → Type 0) : Type 0 where
+-- From a moment on, at which the run's first sync, that of the opening, succeeded, each image stands for commits of the run. The
+-- commits come one after another, and each is held by every image from a moment on. Each image before the opening's sync is one
+-- that the volume had at the start.
+pub record IsSafe (start end : Course) (failed : Type 0) (from now : ℕ) (before is_image : List ℕ → Type 0) (was : ℕ → List ℕ → Type 0) (had has : ℕ → Type 0) : Type 0 where
   pub moment : ℕ
-  pub no_earlier : from ≤ moment
-  pub no_later : moment ≤ now
+  pub later : from < moment
+  pub synced : has moment
+  pub first : (t : ℕ) → t < moment → has t → had t
   pub up_to : (image : List ℕ) → was from image → before image ⊎ was moment image
-  pub since : (image : List ℕ) → was moment image → StandsDuring start end failed image
   pub new : List Commit
   pub commits : end.commits ≡ start.commits ++ new
-  pub held : Climbs (λ commits image. Stands image commits) (λ image. failed × StandsWithNext end image) was moment now start.commits new
-  pub at_end : (image : List ℕ) → is_image image → StandsAtEnd end failed image
+  pub last : ℕ
+  pub held : Climbs (λ commits image. Stands image commits) was moment last start.commits new
+  pub no_later : last ≤ now
+  pub since_last : (image : List ℕ) → was last image → StandsAtEnd end (FailedSecond failed last has) image
+  pub since : (image : List ℕ) → was moment image → StandsDuring start end (FailedSecond failed last has) image
+  pub at_end : (image : List ℕ) → is_image image → StandsAtEnd end (FailedSecond failed last has) image
 
 -- statuses of a run whose opening did not come to the success of its sync
 abbrev pub IsBeforeSync : Status → Type 0
@@ -61,8 +71,9 @@ IsBeforeSync VolumeFault = Unit {0}
 IsBeforeSync (Damaged damage) = ⊥
 IsBeforeSync OutOfMemory = Unit {0}
 
--- The opening's sync did not succeed: no line was run, and each image is one that the volume had at the start.
-pub record IsUnopened (start end : Course) (status : Status) (written : List ℕ) (from : ℕ) (before : List ℕ → Type 0) (was : ℕ → List ℕ → Type 0) : Type 0 where
+-- No sync succeeded in the run: no line was run, and each image is one that the volume had at the start.
+pub record IsUnopened (start end : Course) (status : Status) (written : List ℕ) (from : ℕ) (before : List ℕ → Type 0) (was : ℕ → List ℕ → Type 0) (had has : ℕ → Type 0) : Type 0 where
+  pub no_sync : NoSync had has
   pub early : IsBeforeSync status
   pub no_line : end ≡ start
   pub no_reply : written ≡ []
@@ -88,11 +99,19 @@ During bytes since old new failed = IfSome bytes (λ _. (image : List ℕ) → s
 abbrev pub GrowsByOne : List Group → List Group → Type 0 → Type 0
 GrowsByOne old new failed = (new ≡ old) ⊎ ((failed → ⊥) × (group : Group) × (new ≡ old ++ group ∷ []))
 
--- the groups come one after another, from those of the old desk to those of the new one
-abbrev pub ClimbsFrom : Option (List ℕ) → (ℕ → List ℕ → Type 0) → ℕ → ℕ → Desk → Desk → Type 0 → Type 0
-ClimbsFrom bytes was from now old new failed =
-    IfSome bytes (λ _. (more : List Group) × (new.log ≡ old.log ++ more)
-    × Climbs (λ groups image. HasGroups image groups) (λ image. failed × HasNext new image) was from now old.log more)
+-- The groups come one after another, from those of the old desk to those of the new one. Since the last one had come, an image has
+-- them all, or, where a commit failed at its second stage, these with its group.
+pub record HasClimbed (was : ℕ → List ℕ → Type 0) (has : ℕ → Type 0) (from now : ℕ) (old new : Desk) (failed : Type 0) : Type 0 where
+  pub more : List Group
+  pub grew : new.log ≡ old.log ++ more
+  pub last : ℕ
+  pub climbs : Climbs (λ groups image. HasGroups image groups) was from last old.log more
+  pub no_later : last ≤ now
+  pub since_last : (image : List ℕ) → was last image → HasGroups image new.log ⊎ (FailedSecond failed last has × HasNext new image)
+
+-- the same where the bytes are told
+abbrev pub ClimbsFrom : Option (List ℕ) → (ℕ → List ℕ → Type 0) → (ℕ → Type 0) → ℕ → ℕ → Desk → Desk → Type 0 → Type 0
+ClimbsFrom bytes was has from now old new failed = IfSome bytes (λ _. HasClimbed was has from now old new failed)
 
 -- what each image has that a crash leaves now
 abbrev pub Now : Option (List ℕ) → (List ℕ → Type 0) → Desk → Type 0 → Type 0

@@ -7,6 +7,12 @@ use Rattle.sx_run.specs.Run.{Course, Step, Run}
 use Rattle.sx_shell.specs.declared.status.Status.{Status}
 use Rattle.sx_shell.specs.declared.status.Status.TheVariants.{Done, Usage, ReadFault, WriteFault, VolumeFault, Damaged, OutOfMemory}
 
+-- A commit failed, in the last line that was run: the replies of the lines before it are whole, and it has none.
+abbrev pub CommitFailed : Course → List ℕ → List ℕ → Course → Type 0
+CommitFailed start input written end =
+    (done : List (List ℕ)) × (line : List ℕ) × (more : List (List ℕ))
+    × (lines_of input ≡ done ++ line ∷ more) × Says line (command commit) × Run start done written end
+
 -- From its start, over the bytes that the source had, of which these are left, the run wrote these bytes and came to its end.
 abbrev pub Outcome : Course → List ℕ → List ℕ → Status → List ℕ → Course → Type 0
 -- All lines were run, and their replies are whole.
@@ -18,11 +24,8 @@ Outcome start input left ReadFault written end =
 Outcome start input left WriteFault written end =
     (done : List (List ℕ)) × (line : List ℕ) × (more : List (List ℕ)) × (mid : Course) × (before : List ℕ) × (front : List ℕ) × (rest : List ℕ)
     × (lines_of input ≡ done ++ line ∷ more) × Run start done before mid × Step mid line (front ++ rest) end × (written ≡ before ++ front)
--- At opening no line was run. Else a commit failed: the replies of the lines before it are whole, and it has none.
-Outcome start input left VolumeFault written end =
-    ((written ≡ []) × (end ≡ start))
-    ⊎ ((done : List (List ℕ)) × (line : List ℕ) × (more : List (List ℕ))
-    × (lines_of input ≡ done ++ line ∷ more) × Says line (command commit) × Run start done written end)
+-- At opening no line was run. Else a commit failed.
+Outcome start input left VolumeFault written end = ((written ≡ []) × (end ≡ start)) ⊎ CommitFailed start input written end
 -- The replies of the lines before the one in which memory ran out are whole, and that one did nothing.
 Outcome start input left OutOfMemory written end =
     (done : List (List ℕ)) × (more : List (List ℕ)) × (lines_of input ≡ done ++ more) × Run start done written end

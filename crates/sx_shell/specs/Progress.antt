@@ -3,7 +3,7 @@ use Rattle.std.specs.Prelude.{ℕ, ℤ, ◌≡◌, List, ◌++◌, Option, None,
 use Rattle.sx_layout.specs.Stands.{groups_of}
 use Rattle.sx_run.specs.Lines.{HasNoFeed, HaveNoFeeds, fed}
 use Rattle.sx_run.specs.Run.{Course, Run}
-use Rattle.sx_shell.specs.Outcome.{Outcome}
+use Rattle.sx_shell.specs.Outcome.{CommitFailed, Outcome}
 use Rattle.sx_shell.specs.Shows.{Shows}
 use Rattle.sx_shell.specs.Waiting.{Waiting, kept}
 use Rattle.sx_shell.specs.declared.desk.Desk.{Desk}
@@ -33,7 +33,7 @@ pub record Progress (start : Course) (input before : List ℕ) (left written : O
 abbrev pub Ended : Course → List ℕ → List ℕ → Option (List ℕ) → Option (List ℕ) → Desk → Status → Type 0
 Ended start input before left written desk status =
     (rest : List ℕ) × (out : List ℕ) × (end : Course) × (left ≡ Some rest) × (written ≡ Some (before ++ out)) × Outcome start input rest status out end
-    × (desk.log ≡ groups_of end.commits) × (status ≡ VolumeFault → Shows desk end)
+    × (desk.log ≡ groups_of end.commits) × (status ≡ VolumeFault → Shows desk end × CommitFailed start input out end)
 
 -- the run went on, or ended
 abbrev pub Advanced : Course → List ℕ → List ℕ → Option (List ℕ) → Option (List ℕ) → Waiting → Desk → Option (List ℤ) → Option Status → Type 0

@@ -8,9 +8,9 @@ ghost use Rattle.sx_layout.specs.Stands.{Stands};
 ghost use Rattle.sx_log.specs.Reading.{Explains};
 ghost use Rattle.sx_model.specs.Commit.{Commit};
 ghost use Rattle.sx_run.specs.Run.{Course, Step, started};
-ghost use Rattle.sx_shell.specs.Crash.{ClimbsFrom, During, GrowsByOne, IsSafe, IsUnopened, Now};
+ghost use Rattle.sx_shell.specs.Crash.{ClimbsFrom, During, FailedSecond, GrowsByOne, IsSafe, IsUnopened, Now};
 ghost use Rattle.sx_shell.specs.Ends.{IsAfterOpening, IsInLine};
-ghost use Rattle.sx_shell.specs.Outcome.{Outcome};
+ghost use Rattle.sx_shell.specs.Outcome.{CommitFailed, Outcome};
 ghost use Rattle.sx_shell.specs.Progress.{Progress, Ended, Advanced};
 ghost use Rattle.sx_shell.specs.Served.{IsServed};
 ghost use Rattle.sx_shell.specs.Shows.{Shows};
@@ -57,8 +57,8 @@ pub fn run_live<R: Wait, V: Volume, S: Source, K: Sink, C: Clock, G: Gate>(
         → (left written : List ℕ) × (end : Course) × (S.left source.new ≡ Some left) × (K.written sink.new ≡ Some (before ++ written))
         × Outcome (started commits (C.moments clock.old)) input left result written end
         × (result ≢ Status.VolumeFault → (final : List ℕ) × (V.bytes volume.new ≡ Some final) × Stands final end.commits)
-        × (IsSafe (started commits (C.moments clock.old)) end (result ≡ Status.VolumeFault) (V.moment volume.old) (V.moment volume.new) (V.is_image volume.old) (V.is_image volume.new) (V.was_image volume.new)
-        ⊎ IsUnopened (started commits (C.moments clock.old)) end result written (V.moment volume.old) (V.is_image volume.old) (V.was_image volume.new)) }
+        × (IsSafe (started commits (C.moments clock.old)) end ((result ≡ Status.VolumeFault) × CommitFailed (started commits (C.moments clock.old)) input written end) (V.moment volume.old) (V.moment volume.new) (V.is_image volume.old) (V.is_image volume.new) (V.was_image volume.new) (V.synced volume.old) (V.synced volume.new)
+        ⊎ IsUnopened (started commits (C.moments clock.old)) end result written (V.moment volume.old) (V.is_image volume.old) (V.was_image volume.new) (V.synced volume.old) (V.synced volume.new)) }
 
     // Where no count of faults rises, all of the script is run, unless memory runs out.
     ensures complete { IsLive (map string_bytes words.now) → (image : List ℕ) (commits : List Commit) → V.bytes volume.old ≡ Some image → Stands image commits
@@ -108,10 +108,8 @@ fn drive<R: Wait, V: Volume, S: Source, K: Sink, C: Clock>(
         → Ended start input before (S.left source.new) (K.written sink.new) desk.new result }
     ensures kept { result ≢ Status.VolumeFault → Keeps (V.bytes volume.new) (V.size volume.new) (V.is_image volume.new) desk.new.log }
     ensures told { result ≢ Status.VolumeFault → is_some (V.bytes volume.new) ≡ is_some (V.bytes volume.old) }
-    ensures during { During (V.bytes volume.old) (V.was_image volume.new (V.moment volume.old)) desk.old desk.new (result ≡ Status.VolumeFault) }
-    ensures now { Now (V.bytes volume.old) (V.is_image volume.new) desk.new (result ≡ Status.VolumeFault) }
-    ensures time { Elapses (V.moment volume.old) (V.moment volume.new) (V.was_image volume.old) (V.was_image volume.new) }
-    ensures climbs { ClimbsFrom (V.bytes volume.old) (V.was_image volume.new) (V.moment volume.old) (V.moment volume.new) desk.old desk.new (result ≡ Status.VolumeFault) }
+    ensures time { Elapses (V.moment volume.old) (V.moment volume.new) (V.was_image volume.old) (V.was_image volume.new) (V.synced volume.old) (V.synced volume.new) }
+    ensures climbs { ClimbsFrom (V.bytes volume.old) (V.was_image volume.new) (V.synced volume.new) (V.moment volume.old) (V.moment volume.new) desk.old desk.new (result ≡ Status.VolumeFault) }
     ensures after_opening { IsAfterOpening result }
     ensures read_fault { result ≡ Status.ReadFault → Rose (S.faults source.old) (S.faults source.new) }
     ensures write_fault { result ≡ Status.WriteFault → Rose (K.faults sink.old) (K.faults sink.new) }
@@ -147,9 +145,9 @@ fn advance<V: Volume, S: Source, K: Sink, C: Clock>(
         → Advanced start input before (S.left source.new) (K.written sink.new) (waiting reader.new) desk.new (C.moments clock.new) result }
     ensures kept { result ≢ Some Status.VolumeFault → Keeps (V.bytes volume.new) (V.size volume.new) (V.is_image volume.new) desk.new.log }
     ensures told { result ≢ Some Status.VolumeFault → is_some (V.bytes volume.new) ≡ is_some (V.bytes volume.old) }
-    ensures during { During (V.bytes volume.old) (V.was_image volume.new (V.moment volume.old)) desk.old desk.new (result ≡ Some Status.VolumeFault) }
-    ensures now { Now (V.bytes volume.old) (V.is_image volume.new) desk.new (result ≡ Some Status.VolumeFault) }
-    ensures time { Elapses (V.moment volume.old) (V.moment volume.new) (V.was_image volume.old) (V.was_image volume.new) }
+    ensures during { During (V.bytes volume.old) (V.was_image volume.new (V.moment volume.old)) desk.old desk.new (FailedSecond (result ≡ Some Status.VolumeFault) (V.moment volume.old) (V.synced volume.new)) }
+    ensures now { Now (V.bytes volume.old) (V.is_image volume.new) desk.new (FailedSecond (result ≡ Some Status.VolumeFault) (V.moment volume.old) (V.synced volume.new)) }
+    ensures time { Elapses (V.moment volume.old) (V.moment volume.new) (V.was_image volume.old) (V.was_image volume.new) (V.synced volume.old) (V.synced volume.new) }
     ensures grows { GrowsByOne desk.old.log desk.new.log (result ≡ Some Status.VolumeFault) }
     ensures after_opening { IfSome result IsAfterOpening }
     ensures read_fault { result ≡ Some Status.ReadFault → Rose (S.faults source.old) (S.faults source.new) }
@@ -186,9 +184,9 @@ fn serve<V: Volume, K: Sink, C: Clock>(
         → IsServed course line.now before (K.written sink.new) (C.moments clock.new) desk.old desk.new result }
     ensures kept { result ≢ Some Status.VolumeFault → Keeps (V.bytes volume.new) (V.size volume.new) (V.is_image volume.new) desk.new.log }
     ensures told { result ≢ Some Status.VolumeFault → is_some (V.bytes volume.new) ≡ is_some (V.bytes volume.old) }
-    ensures during { During (V.bytes volume.old) (V.was_image volume.new (V.moment volume.old)) desk.old desk.new (result ≡ Some Status.VolumeFault) }
-    ensures now { Now (V.bytes volume.old) (V.is_image volume.new) desk.new (result ≡ Some Status.VolumeFault) }
-    ensures time { Elapses (V.moment volume.old) (V.moment volume.new) (V.was_image volume.old) (V.was_image volume.new) }
+    ensures during { During (V.bytes volume.old) (V.was_image volume.new (V.moment volume.old)) desk.old desk.new (FailedSecond (result ≡ Some Status.VolumeFault) (V.moment volume.old) (V.synced volume.new)) }
+    ensures now { Now (V.bytes volume.old) (V.is_image volume.new) desk.new (FailedSecond (result ≡ Some Status.VolumeFault) (V.moment volume.old) (V.synced volume.new)) }
+    ensures time { Elapses (V.moment volume.old) (V.moment volume.new) (V.was_image volume.old) (V.was_image volume.new) (V.synced volume.old) (V.synced volume.new) }
     ensures grows { GrowsByOne desk.old.log desk.new.log (result ≡ Some Status.VolumeFault) }
     ensures in_line { IfSome result IsInLine }
     ensures write_fault { result ≡ Some Status.WriteFault → Rose (K.faults sink.old) (K.faults sink.new) }

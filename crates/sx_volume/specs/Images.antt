@@ -28,10 +28,26 @@ pub record Cuts (len : ℕ) (old new : List ℕ) : Type 0 where
   pub front : take len new ≡ take len old
   pub no_longer : length new ≤ length old
 
+-- No sync succeeded: the moments at which one had are the same.
+abbrev pub NoSync : (ℕ → Type 0) → (ℕ → Type 0) → Type 0
+NoSync had has = (t : ℕ) → has t → had t
+
+-- One sync succeeded, at this moment, which is later than the start.
+pub record Syncs (start now : ℕ) (had has : ℕ → Type 0) : Type 0 where
+  pub later : start < now
+  pub here : has now
+  pub no_other : (t : ℕ) → has t → had t ⊎ (t ≡ now)
+
+-- A sync has succeeded since that moment.
+abbrev pub HasSynced : ℕ → (ℕ → Type 0) → Type 0
+HasSynced from has = (t : ℕ) × (from < t) × has t
+
 -- Time goes on over a call. For a moment before it, a list passes the second test exactly where it passed it before, or
--- where it passes it for the call's own start.
-pub record Elapses (start end : ℕ) (was is : ℕ → List ℕ → Type 0) : Type 0 where
+-- where it passes it for the call's own start, and a sync had succeeded there exactly where it had before.
+pub record Elapses (start end : ℕ) (was is : ℕ → List ℕ → Type 0) (had has : ℕ → Type 0) : Type 0 where
   pub later : start ≤ end
   pub nothing_else : (t : ℕ) (c : List ℕ) → t ≤ start → is t c → was t c ⊎ is start c
   pub keeps : (t : ℕ) (c : List ℕ) → t ≤ start → was t c → is t c
   pub counts : (t : ℕ) (c : List ℕ) → t ≤ start → is start c → is t c
+  pub syncs : (t : ℕ) → had t → has t
+  pub no_sync_before : (t : ℕ) → t ≤ start → has t → had t

@@ -4,7 +4,7 @@ use Rattle.sx_volume.specs.Counts.{plus}
 use Rattle.sx_volume.specs.Held.{held_piece}
 use Rattle.sx_volume.specs.Tally.{Tally, one_more, one_more_failed}
 use Rattle.sx_volume.specs.Change.{Change, Appended, Put, Cut, Synced, Pending, IsImage}
-use Rattle.sx_volume.specs.Replay.{pending_after, WasImage}
+use Rattle.sx_volume.specs.Replay.{pending_after, WasImage, SyncAt}
 
 pub record Medium : Type 0 where
   -- the bytes at the start, all of them kept
@@ -38,6 +38,10 @@ MayLeave medium = IsImage (pending medium)
 -- a crash may have left it at some moment since that one
 abbrev pub MayHaveLeft : Medium → ℕ → List ℕ → Type 0
 MayHaveLeft medium = WasImage medium.first medium.changes
+
+-- a sync succeeded at this moment
+abbrev pub HadSync : Medium → ℕ → Type 0
+HadSync medium = SyncAt medium.changes
 
 -- after a call that failed, which changes nothing but the counts
 abbrev pub after_failure : Medium → Medium

@@ -1,5 +1,5 @@
 -- A volume in memory through its changes: what is pending after each, and which lists a crash may leave.
-use Rattle.std.specs.Prelude.{◌≡◌, ℕ, ◌≤◌, List, [], ◌∷◌, length, take, Some, refl}
+use Rattle.std.specs.Prelude.{◌≡◌, ℕ, zero, suc, ◌+◌, ◌<◌, ◌≤◌, List, [], ◌∷◌, length, take, slice_get, Some, refl}
 use Rattle.std.proofs.Common.{inl, arith, sym, ap, subst, length-append, length-set}
 use Rattle.std.proofs.lemmas.List.{length-take, take_all}
 use Rattle.sx_volume.specs.Change.{Change, Appended, Put, Cut, Synced, Pending, settled, after_change, after_changes, IsImage}
@@ -12,12 +12,24 @@ pending_after first changes = after_changes (settled first) changes
 abbrev pub WasImage : List ℕ → List Change → ℕ → List ℕ → Type 0
 WasImage first changes t c = (k : ℕ) × (t ≤ k) × (k ≤ length changes) × IsImage (pending_after first (take k changes)) c
 
+-- a sync succeeded at this moment
+abbrev pub SyncAt : List Change → ℕ → Type 0
+SyncAt changes t = (k : ℕ) × (slice_get changes k ≡ Some Synced) × (t ≡ k + 1)
+
 pub counts_now : (first : List ℕ) (changes : List Change) (t : ℕ) (c : List ℕ) → t ≤ length changes → IsImage (pending_after first changes) c → WasImage first changes t c
 counts_now first changes t c le image =
     (length changes, le, omega arith, subst (λ (l : List Change). IsImage (pending_after first l) c) (sym (take_all (length changes) changes (omega arith))) image)
 
 pub only_now : (first : List ℕ) (changes : List Change) (c : List ℕ) → WasImage first changes (length changes) c → IsImage (pending_after first changes) c
 only_now first changes c was = subst (λ (l : List Change). IsImage (pending_after first l) c) (take_all was.0 changes was.1) was.3
+
+pub got_within : (changes : List Change) (k : ℕ) (change : Change) → slice_get changes k ≡ Some change → k < length changes
+got_within [] k change got = absurd (cc got)
+got_within (x ∷ changes) zero change got = omega arith
+got_within (x ∷ changes) (suc k) change got = let rest = got_within changes k change got in omega (arith, rest)
+
+pub synced_by_now : (changes : List Change) (t : ℕ) → SyncAt changes t → t ≤ length changes
+synced_by_now changes t sync = let within = got_within changes sync.0 Synced sync.1 in omega (arith, within, sync.2)
 
 -- the lengths between which a crash leaves the volume are about the one that is read
 pub record IsSound (p : Pending) : Type 0 where

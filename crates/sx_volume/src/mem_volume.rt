@@ -4,10 +4,10 @@ ghost use Rattle.sx_outside.specs.Faults.{Rose};
 ghost use Rattle.sx_volume.specs.Change.{AreBytes, image_of};
 ghost use Rattle.sx_volume.specs.Counts.{plus};
 ghost use Rattle.sx_volume.specs.Held.{IsHeldFor, LiesInHeld, held_piece, held_range};
-ghost use Rattle.sx_volume.specs.Images.{Only, IsWithin, Follows, Appends, Puts, Cuts, Elapses};
+ghost use Rattle.sx_volume.specs.Images.{Only, IsWithin, Follows, Appends, Puts, Cuts, Elapses, NoSync, Syncs};
 ghost use Rattle.sx_volume.specs.Kept.{place_and_bytes};
-ghost use Rattle.sx_volume.specs.Medium.{Medium, pending, bytes_of, is_calm, moment_of, MayLeave, MayHaveLeft, after_failure, after_read, after_failed_read, after_append, after_put, after_cut, after_sync};
-ghost use Rattle.sx_volume.specs.Replay.{counts_now, only_now, told_length, as_read};
+ghost use Rattle.sx_volume.specs.Medium.{Medium, pending, bytes_of, is_calm, moment_of, MayLeave, MayHaveLeft, HadSync, after_failure, after_read, after_failed_read, after_append, after_put, after_cut, after_sync};
+ghost use Rattle.sx_volume.specs.Replay.{counts_now, only_now, synced_by_now, told_length, as_read};
 ghost use Rattle.sx_volume.specs.Tally.{FailsNext};
 
 use crate::content::Content;
@@ -213,9 +213,13 @@ impl Volume for MemVolume {
 
     ghost was_image = { MayHaveLeft };
 
+    ghost synced = { HadSync };
+
     ghost counts_now = { λ volume. counts_now volume.first volume.changes };
 
     ghost only_now = { λ volume. only_now volume.first volume.changes };
+
+    ghost synced_by_now = { λ volume. synced_by_now volume.changes };
 
     ghost told_size = { λ volume all. told_length (bytes_of volume) all };
 
@@ -238,7 +242,8 @@ impl Volume for MemVolume {
         ensures never_falls { self.old.tally.faults ≤ self.new.tally.faults }
         ensures no_image_more { IsWithin (MayLeave self.old) (MayHaveLeft self.new (moment_of self.old)) }
         ensures no_image_less { IsWithin (MayLeave self.new) (MayLeave self.old) }
-        ensures time { Elapses (moment_of self.old) (moment_of self.new) (MayHaveLeft self.old) (MayHaveLeft self.new) }
+        ensures no_sync { NoSync (HadSync self.old) (HadSync self.new) }
+        ensures time { Elapses (moment_of self.old) (moment_of self.new) (MayHaveLeft self.old) (MayHaveLeft self.new) (HadSync self.old) (HadSync self.new) }
 
         ensures fails { IsErr result ↔ FailsNext self.old.tally }
         ensures read { OnOk result (self.new ≡ after_read self.old (length room.old)) }
@@ -262,7 +267,8 @@ impl Volume for MemVolume {
         ensures never_falls { self.old.tally.faults ≤ self.new.tally.faults }
         ensures no_image_more { IsWithin (MayLeave self.old) (MayHaveLeft self.new (moment_of self.old)) }
         ensures no_image_less { IsWithin (MayLeave self.new) (MayLeave self.old) }
-        ensures time { Elapses (moment_of self.old) (moment_of self.new) (MayHaveLeft self.old) (MayHaveLeft self.new) }
+        ensures no_sync { NoSync (HadSync self.old) (HadSync self.new) }
+        ensures time { Elapses (moment_of self.old) (moment_of self.new) (MayHaveLeft self.old) (MayHaveLeft self.new) (HadSync self.old) (HadSync self.new) }
 
         ensures holds { OnOk result (self.new ≡ record self.old { held = Some (at, (arc_value piece).items) }) }
         ensures refused { OnErr result (self.new ≡ self.old) }
@@ -285,7 +291,8 @@ impl Volume for MemVolume {
         ensures never_falls { self.old.tally.faults ≤ self.new.tally.faults }
         ensures no_image_more { IsWithin (MayLeave self.old) (MayHaveLeft self.new (moment_of self.old)) }
         ensures no_image_less { IsWithin (MayLeave self.new) (MayLeave self.old) }
-        ensures time { Elapses (moment_of self.old) (moment_of self.new) (MayHaveLeft self.old) (MayHaveLeft self.new) }
+        ensures no_sync { NoSync (HadSync self.old) (HadSync self.new) }
+        ensures time { Elapses (moment_of self.old) (moment_of self.new) (MayHaveLeft self.old) (MayHaveLeft self.new) (HadSync self.old) (HadSync self.new) }
 
         ensures readied { self.new ≡ record self.old { spare = self.new.spare } }
     {
@@ -310,7 +317,8 @@ impl Volume for MemVolume {
         ensures never_falls { self.old.tally.faults ≤ self.new.tally.faults }
         ensures goes_on_telling { IsSome (Some (bytes_of self.old)) → IsSome (Some (bytes_of self.new)) }
         ensures images { Follows (Appends (length (bytes_of self.old) + length (held_piece self.old.held))) (MayLeave self.old) (MayHaveLeft self.new (moment_of self.old)) }
-        ensures time { Elapses (moment_of self.old) (moment_of self.new) (MayHaveLeft self.old) (MayHaveLeft self.new) }
+        ensures no_sync { NoSync (HadSync self.old) (HadSync self.new) }
+        ensures time { Elapses (moment_of self.old) (moment_of self.new) (MayHaveLeft self.old) (MayHaveLeft self.new) (HadSync self.old) (HadSync self.new) }
 
         ensures fails { IsErr result ↔ FailsNext self.old.tally }
         ensures done { OnOk result (self.new ≡ after_append self.old) }
@@ -332,7 +340,8 @@ impl Volume for MemVolume {
         ensures never_falls { self.old.tally.faults ≤ self.new.tally.faults }
         ensures goes_on_telling { IsSome (Some (bytes_of self.old)) → IsSome (Some (bytes_of self.new)) }
         ensures images { Follows (Puts at) (MayLeave self.old) (MayHaveLeft self.new (moment_of self.old)) }
-        ensures time { Elapses (moment_of self.old) (moment_of self.new) (MayHaveLeft self.old) (MayHaveLeft self.new) }
+        ensures no_sync { NoSync (HadSync self.old) (HadSync self.new) }
+        ensures time { Elapses (moment_of self.old) (moment_of self.new) (MayHaveLeft self.old) (MayHaveLeft self.new) (HadSync self.old) (HadSync self.new) }
 
         ensures fails { IsErr result ↔ FailsNext self.old.tally }
         ensures done { OnOk result (self.new ≡ after_put self.old at byte) }
@@ -355,7 +364,8 @@ impl Volume for MemVolume {
         ensures never_falls { self.old.tally.faults ≤ self.new.tally.faults }
         ensures goes_on_telling { IsSome (Some (bytes_of self.old)) → IsSome (Some (bytes_of self.new)) }
         ensures images { Follows (Cuts len) (MayLeave self.old) (MayHaveLeft self.new (moment_of self.old)) }
-        ensures time { Elapses (moment_of self.old) (moment_of self.new) (MayHaveLeft self.old) (MayHaveLeft self.new) }
+        ensures no_sync { NoSync (HadSync self.old) (HadSync self.new) }
+        ensures time { Elapses (moment_of self.old) (moment_of self.new) (MayHaveLeft self.old) (MayHaveLeft self.new) (HadSync self.old) (HadSync self.new) }
 
         ensures fails { IsErr result ↔ FailsNext self.old.tally }
         ensures done { OnOk result (self.new ≡ after_cut self.old len) }
@@ -378,7 +388,9 @@ impl Volume for MemVolume {
         ensures goes_on_telling { IsSome (Some (bytes_of self.old)) → IsSome (Some (bytes_of self.new)) }
         ensures durable { OnOk result (Only (bytes_of self.old) (MayLeave self.new)) }
         ensures images { IsWithin (MayLeave self.old) (MayHaveLeft self.new (moment_of self.old)) }
-        ensures time { Elapses (moment_of self.old) (moment_of self.new) (MayHaveLeft self.old) (MayHaveLeft self.new) }
+        ensures synced { OnOk result (Syncs (moment_of self.old) (moment_of self.new) (HadSync self.old) (HadSync self.new)) }
+        ensures no_sync { OnErr result (NoSync (HadSync self.old) (HadSync self.new)) }
+        ensures time { Elapses (moment_of self.old) (moment_of self.new) (MayHaveLeft self.old) (MayHaveLeft self.new) (HadSync self.old) (HadSync self.new) }
 
         ensures fails { IsErr result ↔ FailsNext self.old.tally }
         ensures done { OnOk result (self.new ≡ after_sync self.old) }

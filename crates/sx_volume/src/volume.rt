@@ -3,7 +3,7 @@ ghost use Rattle.std.specs.Arc.{arc_value};
 ghost use Rattle.std.specs.Option.{option_map};
 ghost use Rattle.sx_outside.specs.Faults.{Rose};
 ghost use Rattle.sx_volume.specs.Counts.{plus};
-ghost use Rattle.sx_volume.specs.Images.{Only, IsWithin, Follows, Appends, Puts, Cuts, Elapses};
+ghost use Rattle.sx_volume.specs.Images.{Only, IsWithin, Follows, Appends, Puts, Cuts, Elapses, NoSync, Syncs};
 ghost use Rattle.sx_volume.specs.Held.{IsHeldFor, LiesInHeld, held_piece, held_range};
 
 use crate::{ReadEnd, Spot};
@@ -51,6 +51,9 @@ pub trait Volume {
     /// A crash at some moment since that one, within a call or between two, may have left these bytes.
     ghost was_image: { Self → ℕ → List ℕ → Type 0 };
 
+    /// A sync succeeded at this moment. Of a volume that does not tell its bytes nothing is known.
+    ghost synced: { Self → ℕ → Type 0 };
+
     /// The length in bytes.
     fn len(&self) -> u64
         ensures value { result ≡ size self.now }
@@ -70,7 +73,8 @@ pub trait Volume {
         ensures never_falls { faults self.old ≤ faults self.new }
         ensures no_image_more { IsWithin (is_image self.old) (was_image self.new (moment self.old)) }
         ensures no_image_less { IsWithin (is_image self.new) (is_image self.old) }
-        ensures time { Elapses (moment self.old) (moment self.new) (was_image self.old) (was_image self.new) };
+        ensures no_sync { NoSync (synced self.old) (synced self.new) }
+        ensures time { Elapses (moment self.old) (moment self.new) (was_image self.old) (was_image self.new) (synced self.old) (synced self.new) };
 
     /// Keeps the piece for the append at that place, instead of one that was held before, and takes the memory
     /// that the append will need. A refusal changes nothing.
@@ -85,7 +89,8 @@ pub trait Volume {
         ensures never_falls { faults self.old ≤ faults self.new }
         ensures no_image_more { IsWithin (is_image self.old) (was_image self.new (moment self.old)) }
         ensures no_image_less { IsWithin (is_image self.new) (is_image self.old) }
-        ensures time { Elapses (moment self.old) (moment self.new) (was_image self.old) (was_image self.new) };
+        ensures no_sync { NoSync (synced self.old) (synced self.new) }
+        ensures time { Elapses (moment self.old) (moment self.new) (was_image self.old) (was_image self.new) (synced self.old) (synced self.new) };
 
     /// Makes the spare calls at least so many, by taking the memory that they need. A refusal changes nothing.
     fn ready(&mut self, alloc: Global, calls: u32) -> Result<(), AllocError>
@@ -100,7 +105,8 @@ pub trait Volume {
         ensures never_falls { faults self.old ≤ faults self.new }
         ensures no_image_more { IsWithin (is_image self.old) (was_image self.new (moment self.old)) }
         ensures no_image_less { IsWithin (is_image self.new) (is_image self.old) }
-        ensures time { Elapses (moment self.old) (moment self.new) (was_image self.old) (was_image self.new) };
+        ensures no_sync { NoSync (synced self.old) (synced self.new) }
+        ensures time { Elapses (moment self.old) (moment self.new) (was_image self.old) (was_image self.new) (synced self.old) (synced self.new) };
 
     /// Appends the held piece, which is held no more.
     fn append(&mut self) -> Result<(), Failed>
@@ -115,7 +121,8 @@ pub trait Volume {
         ensures never_falls { faults self.old ≤ faults self.new }
         ensures goes_on_telling { IsSome (bytes self.old) → IsSome (bytes self.new) }
         ensures images { Follows (Appends (size self.old + length (held_piece (held self.old)))) (is_image self.old) (was_image self.new (moment self.old)) }
-        ensures time { Elapses (moment self.old) (moment self.new) (was_image self.old) (was_image self.new) };
+        ensures no_sync { NoSync (synced self.old) (synced self.new) }
+        ensures time { Elapses (moment self.old) (moment self.new) (was_image self.old) (was_image self.new) (synced self.old) (synced self.new) };
 
     /// Writes one byte over the byte at that place.
     fn put_byte(&mut self, at: u64, byte: u8) -> Result<(), Failed>
@@ -130,7 +137,8 @@ pub trait Volume {
         ensures never_falls { faults self.old ≤ faults self.new }
         ensures goes_on_telling { IsSome (bytes self.old) → IsSome (bytes self.new) }
         ensures images { Follows (Puts at) (is_image self.old) (was_image self.new (moment self.old)) }
-        ensures time { Elapses (moment self.old) (moment self.new) (was_image self.old) (was_image self.new) };
+        ensures no_sync { NoSync (synced self.old) (synced self.new) }
+        ensures time { Elapses (moment self.old) (moment self.new) (was_image self.old) (was_image self.new) (synced self.old) (synced self.new) };
 
     /// Makes the length `len`, by dropping what stands behind.
     fn cut(&mut self, len: u64) -> Result<(), Failed>
@@ -145,7 +153,8 @@ pub trait Volume {
         ensures never_falls { faults self.old ≤ faults self.new }
         ensures goes_on_telling { IsSome (bytes self.old) → IsSome (bytes self.new) }
         ensures images { Follows (Cuts len) (is_image self.old) (was_image self.new (moment self.old)) }
-        ensures time { Elapses (moment self.old) (moment self.new) (was_image self.old) (was_image self.new) };
+        ensures no_sync { NoSync (synced self.old) (synced self.new) }
+        ensures time { Elapses (moment self.old) (moment self.new) (was_image self.old) (was_image self.new) (synced self.old) (synced self.new) };
 
     /// At `Ok` all that was written is kept through a crash, and the volume is calm.
     fn sync(&mut self) -> Result<(), Failed>
@@ -161,7 +170,9 @@ pub trait Volume {
         ensures goes_on_telling { IsSome (bytes self.old) → IsSome (bytes self.new) }
         ensures durable { OnOk result (IfSome (bytes self.old) (λ all. Only all (is_image self.new))) }
         ensures images { IsWithin (is_image self.old) (was_image self.new (moment self.old)) }
-        ensures time { Elapses (moment self.old) (moment self.new) (was_image self.old) (was_image self.new) };
+        ensures synced { OnOk result (IfSome (bytes self.old) (λ _. Syncs (moment self.old) (moment self.new) (synced self.old) (synced self.new))) }
+        ensures no_sync { OnErr result (NoSync (synced self.old) (synced self.new)) }
+        ensures time { Elapses (moment self.old) (moment self.new) (was_image self.old) (was_image self.new) (synced self.old) (synced self.new) };
 
     /// A spot for a range of the held piece, or of a calm volume. What the spot tells never changes.
     fn spot(&self, alloc: Global, at: u64, count: u32) -> Result<Self::Spot, AllocError>
@@ -175,6 +186,9 @@ pub trait Volume {
 
     /// Since this moment there is no other.
     ghost only_now: { (volume : Self) (c : List ℕ) → was_image volume (moment volume) c → is_image volume c };
+
+    /// No sync is one of the future.
+    ghost synced_by_now: { (volume : Self) (t : ℕ) → synced volume t → t ≤ moment volume };
 
     /// Where the bytes are told, they have the volume's length.
     ghost told_size: { (volume : Self) (all : List ℕ) → bytes volume ≡ Some all → length all ≡ size volume };

@@ -58,6 +58,7 @@ both_leave : goal.returns-then-not-branch-clause-images
 both_leave g c =
     leaves_then (g.V.Volume.moment c.args.volume.now) (g.V.Volume.moment c.read_head.new.volume) (g.V.Volume.moment c.read_bytes.new.volume)
     (g.V.Volume.was_image c.args.volume.now) (g.V.Volume.was_image c.read_head.new.volume) (g.V.Volume.was_image c.read_bytes.new.volume)
+    (g.V.Volume.synced c.args.volume.now) (g.V.Volume.synced c.read_head.new.volume) (g.V.Volume.synced c.read_bytes.new.volume)
     (g.V.Volume.is_image c.args.volume.now) (g.V.Volume.is_image c.read_head.new.volume) (g.V.Volume.is_image c.read_bytes.new.volume)
     (g.met.V.Volume.counts_now c.read_head.new.volume) c.read_head.ensures.images c.read_bytes.ensures.images
 

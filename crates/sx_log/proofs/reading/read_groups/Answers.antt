@@ -13,7 +13,7 @@ loop-log-init g c = record {
       (begins_with_none (g.V.Volume.bytes c.args.volume.now) (g.V.Volume.size c.args.volume.now) c.requires.long);
   same_bytes = refl;
   same_size = refl;
-  images = leaves_none (g.V.Volume.moment c.args.volume.now) (g.V.Volume.was_image c.args.volume.now) (g.V.Volume.is_image c.args.volume.now)
+  images = leaves_none (g.V.Volume.moment c.args.volume.now) (g.V.Volume.was_image c.args.volume.now) (g.V.Volume.synced c.args.volume.now) (g.V.Volume.is_image c.args.volume.now)
       (g.met.V.Volume.counts_now c.args.volume.now) (g.met.V.Volume.only_now c.args.volume.now);
   never_falls = omega arith;
 }

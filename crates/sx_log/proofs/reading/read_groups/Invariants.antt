@@ -10,7 +10,7 @@ invariant-loop-log g l = record {
   front : BeginsWithGroups (g.V.Volume.bytes l.fn.volume) (g.V.Volume.size l.fn.volume) l.log;
   same_bytes : g.V.Volume.bytes l.volume ≡ g.V.Volume.bytes l.fn.volume;
   same_size : g.V.Volume.size l.volume ≡ g.V.Volume.size l.fn.volume;
-  images : LeavesImages (g.V.Volume.moment l.fn.volume) (g.V.Volume.moment l.volume) (g.V.Volume.was_image l.fn.volume) (g.V.Volume.was_image l.volume) (g.V.Volume.is_image l.fn.volume) (g.V.Volume.is_image l.volume);
+  images : LeavesImages (g.V.Volume.moment l.fn.volume) (g.V.Volume.moment l.volume) (g.V.Volume.was_image l.fn.volume) (g.V.Volume.was_image l.volume) (g.V.Volume.synced l.fn.volume) (g.V.Volume.synced l.volume) (g.V.Volume.is_image l.fn.volume) (g.V.Volume.is_image l.volume);
   never_falls : g.V.Volume.faults l.fn.volume ≤ g.V.Volume.faults l.volume;
 }
 

@@ -14,7 +14,7 @@ returns-in_err-append-clause-images g c =
     c.cut_behind.ensures.time.later
     (λ image now. g.met.V.Volume.counts_now c.cut_behind.new.volume start image c.cut_behind.ensures.time.later now)
     (λ a b image _ first second. behind_then_append c.args.gate end a b image first second)
-    c.cut_behind.ensures.images c.append.ensures.time c.append.ensures.images
+    c.cut_behind.ensures.images c.append.ensures.time.nothing_else c.append.ensures.images
 
 pub returns-clause-images : goal.returns-clause-images
 returns-clause-images g c =
@@ -25,9 +25,9 @@ returns-clause-images g c =
     c.cut_behind.ensures.time.later
     (λ image now. g.met.V.Volume.counts_now c.cut_behind.new.volume start image c.cut_behind.ensures.time.later now)
     (λ a b image _ first second. behind_then_append c.args.gate end a b image first second)
-    c.cut_behind.ensures.images c.append.ensures.time c.append.ensures.images in
+    c.cut_behind.ensures.images c.append.ensures.time.nothing_else c.append.ensures.images in
     let later : start ≤ g.V.Volume.moment c.append.new.self = omega (arith, c.cut_behind.ensures.time.later, c.append.ensures.time.later) in
     within_then (IsBehind c.args.gate) start (g.V.Volume.moment c.append.new.self) (g.V.Volume.moment c.sync.new.self) (g.V.Volume.is_image c.args.volume.now) (g.V.Volume.is_image c.append.new.self) (g.V.Volume.was_image c.append.new.self) (g.V.Volume.was_image c.sync.new.self)
     later
     (λ image now. g.met.V.Volume.counts_now c.append.new.self start image later now)
-    appended c.sync.ensures.time c.sync.ensures.images
+    appended c.sync.ensures.time.nothing_else c.sync.ensures.images

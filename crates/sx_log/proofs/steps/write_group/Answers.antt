@@ -16,7 +16,7 @@ returns-in_err-map_err-clause-during g c =
     behind_next c.args.gate start (g.V.Volume.moment c.prepare.new.volume) (g.V.Volume.moment c.stage.new.volume) (g.V.Volume.is_image c.args.volume.now) (g.V.Volume.is_image c.prepare.new.volume) (g.V.Volume.was_image c.prepare.new.volume) (g.V.Volume.was_image c.stage.new.volume)
     c.prepare.ensures.time.later
     (λ image now. g.met.V.Volume.counts_now c.prepare.new.volume start image c.prepare.ensures.time.later now)
-    c.prepare.ensures.no_image_more c.stage.ensures.time c.stage.ensures.images in
+    c.prepare.ensures.no_image_more c.stage.ensures.time.nothing_else c.stage.ensures.images in
     only_behind c.args.gate (shown c.args.row.now) (g.V.Volume.bytes c.args.volume.now) (g.V.Volume.is_image c.args.volume.now) (g.V.Volume.was_image c.stage.new.volume start) staged
 
 -- a crash in the second stage
@@ -28,7 +28,7 @@ returns-in_err-map_err-2-clause-during g c =
     behind_next c.args.gate start (g.V.Volume.moment c.prepare.new.volume) (g.V.Volume.moment c.stage.new.volume) (g.V.Volume.is_image c.args.volume.now) (g.V.Volume.is_image c.prepare.new.volume) (g.V.Volume.was_image c.prepare.new.volume) (g.V.Volume.was_image c.stage.new.volume)
     c.prepare.ensures.time.later
     (λ image now. g.met.V.Volume.counts_now c.prepare.new.volume start image c.prepare.ensures.time.later now)
-    c.prepare.ensures.no_image_more c.stage.ensures.time c.stage.ensures.images in
+    c.prepare.ensures.no_image_more c.stage.ensures.time.nothing_else c.stage.ensures.images in
     let later : start ≤ g.V.Volume.moment c.stage.new.volume = omega (arith, c.prepare.ensures.time.later, c.stage.ensures.time.later) in
     let durable : IfSome (g.V.Volume.bytes c.stage.new.volume) (λ all. Only all (g.V.Volume.is_image c.stage.new.volume)) = search rules in
     let written : g.V.Volume.bytes c.stage.new.volume ≡ option_map (λ all. take (c.args.gate + 1) all ++ held_piece (g.V.Volume.held c.prepare.new.volume)) (g.V.Volume.bytes c.prepare.new.volume) = search rules in
@@ -40,7 +40,7 @@ returns-in_err-map_err-2-clause-during g c =
     opens c.args.gate row (g.V.Volume.bytes c.args.volume.now) (g.V.Volume.bytes c.stage.new.volume) start (g.V.Volume.moment c.stage.new.volume) (g.V.Volume.moment c.open_gate.new.volume) (g.V.Volume.is_image c.args.volume.now) (g.V.Volume.is_image c.stage.new.volume) (g.V.Volume.was_image c.stage.new.volume) (g.V.Volume.was_image c.open_gate.new.volume)
     later
     (λ image now. g.met.V.Volume.counts_now c.stage.new.volume start image later now)
-    closed durable staged c.open_gate.ensures.time c.open_gate.ensures.images
+    closed durable staged c.open_gate.ensures.time.nothing_else c.open_gate.ensures.images
 
 pub returns-clause-during : goal.returns-clause-during
 returns-clause-during g c =
@@ -50,7 +50,7 @@ returns-clause-during g c =
     behind_next c.args.gate start (g.V.Volume.moment c.prepare.new.volume) (g.V.Volume.moment c.stage.new.volume) (g.V.Volume.is_image c.args.volume.now) (g.V.Volume.is_image c.prepare.new.volume) (g.V.Volume.was_image c.prepare.new.volume) (g.V.Volume.was_image c.stage.new.volume)
     c.prepare.ensures.time.later
     (λ image now. g.met.V.Volume.counts_now c.prepare.new.volume start image c.prepare.ensures.time.later now)
-    c.prepare.ensures.no_image_more c.stage.ensures.time c.stage.ensures.images in
+    c.prepare.ensures.no_image_more c.stage.ensures.time.nothing_else c.stage.ensures.images in
     let later : start ≤ g.V.Volume.moment c.stage.new.volume = omega (arith, c.prepare.ensures.time.later, c.stage.ensures.time.later) in
     let durable : IfSome (g.V.Volume.bytes c.stage.new.volume) (λ all. Only all (g.V.Volume.is_image c.stage.new.volume)) = search rules in
     let written : g.V.Volume.bytes c.stage.new.volume ≡ option_map (λ all. take (c.args.gate + 1) all ++ held_piece (g.V.Volume.held c.prepare.new.volume)) (g.V.Volume.bytes c.prepare.new.volume) = search rules in
@@ -62,4 +62,4 @@ returns-clause-during g c =
     opens c.args.gate row (g.V.Volume.bytes c.args.volume.now) (g.V.Volume.bytes c.stage.new.volume) start (g.V.Volume.moment c.stage.new.volume) (g.V.Volume.moment c.open_gate.new.volume) (g.V.Volume.is_image c.args.volume.now) (g.V.Volume.is_image c.stage.new.volume) (g.V.Volume.was_image c.stage.new.volume) (g.V.Volume.was_image c.open_gate.new.volume)
     later
     (λ image now. g.met.V.Volume.counts_now c.stage.new.volume start image later now)
-    closed durable staged c.open_gate.ensures.time c.open_gate.ensures.images
+    closed durable staged c.open_gate.ensures.time.nothing_else c.open_gate.ensures.images

@@ -2,7 +2,7 @@ use Rattle.std.proofs.Common.{◌≡◌, ◌∙◌, Option, None, Some, refl, ar
 use Rattle.sx_shell.specs.declared.status.Status.{Status}
 use Rattle.sx_shell.specs.declared.status.Status.TheVariants.{OutOfMemory, VolumeFault}
 use Rattle.sx_shell.specs.Waiting.{waiting}
-use Rattle.sx_shell.proofs.Meanwhile.{during_none, during_then, during_weaker, front_same, front_then, by_one_front, climbs_none, climbs_then, climbs_weaker}
+use Rattle.sx_shell.proofs.Meanwhile.{climbs_none, climbs_then, climbs_weaker}
 use Rattle.sx_shell.proofs.Progresses.{begun}
 use Rattle.sx_volume.proofs.Images.{elapses_same, elapses_then}
 use Rattle.sx_shell.proofs.shell.drive.Goals as goal
@@ -14,39 +14,27 @@ loop-init g c = record {
       (g.C.Clock.moments c.args.clock.now) left written c.in-Ok.ensures shows same;
   kept = c.requires.kept;
   told = refl;
-  during = during_none (g.V.Volume.bytes c.args.volume.now) (g.V.Volume.is_image c.args.volume.now) (g.V.Volume.was_image c.args.volume.now (g.V.Volume.moment c.args.volume.now)) c.args.desk.now
-      (g.met.V.Volume.only_now c.args.volume.now) c.requires.kept.images;
-  time = elapses_same (g.V.Volume.moment c.args.volume.now) (g.V.Volume.was_image c.args.volume.now) (g.V.Volume.is_image c.args.volume.now)
+  time = elapses_same (g.V.Volume.moment c.args.volume.now) (g.V.Volume.was_image c.args.volume.now) (g.V.Volume.synced c.args.volume.now) (g.V.Volume.is_image c.args.volume.now)
       (g.met.V.Volume.counts_now c.args.volume.now) (g.met.V.Volume.only_now c.args.volume.now);
-  grows = front_same c.args.desk.now.log;
-  climbs = climbs_none (g.V.Volume.bytes c.args.volume.now) (g.V.Volume.is_image c.args.volume.now) (g.V.Volume.was_image c.args.volume.now) (g.V.Volume.moment c.args.volume.now) c.args.desk.now
+  climbs = climbs_none (g.V.Volume.bytes c.args.volume.now) (g.V.Volume.is_image c.args.volume.now) (g.V.Volume.was_image c.args.volume.now) (g.V.Volume.synced c.args.volume.now) (g.V.Volume.moment c.args.volume.now) c.args.desk.now ⊥
       (g.met.V.Volume.only_now c.args.volume.now) c.requires.kept.images;
   source_faults = omega arith;
   sink_faults = omega arith;
   volume_faults = omega arith;
 }
 
-pub returns-in-Some-advance-clause-during : goal.returns-in-Some-advance-clause-during
-returns-in-Some-advance-clause-during g c =
-    during_then (g.V.Volume.bytes c.args.volume.now) (g.V.Volume.bytes c.loop.volume) (g.V.Volume.moment c.args.volume.now) (g.V.Volume.moment c.loop.volume) (g.V.Volume.moment c.advance.new.volume)
-    (g.V.Volume.was_image c.loop.volume) (g.V.Volume.was_image c.advance.new.volume) c.args.desk.now c.loop.desk c.advance.new.desk (c.in-Some-advance.status ≡ VolumeFault)
-    c.loop.invariant.told c.loop.invariant.time.later c.advance.ensures.time c.loop.invariant.grows (by_one_front c.loop.desk.log c.advance.new.desk.log (c.advance.result ≡ Some VolumeFault) c.advance.ensures.grows) c.loop.invariant.during
-    (during_weaker (g.V.Volume.bytes c.loop.volume) (g.V.Volume.was_image c.advance.new.volume (g.V.Volume.moment c.loop.volume)) c.loop.desk c.advance.new.desk
-    (Some c.in-Some-advance.status ≡ Some VolumeFault) (c.in-Some-advance.status ≡ VolumeFault) (λ same. cc same) c.in-Some-advance.ensures.during)
-
 pub returns-in_default-clause-climbs : goal.returns-in_default-clause-climbs
 returns-in_default-clause-climbs g c =
-    climbs_weaker (g.V.Volume.bytes c.args.volume.now) (g.V.Volume.was_image c.args.volume.now) (g.V.Volume.moment c.args.volume.now) (g.V.Volume.moment c.args.volume.now) c.args.desk.now c.args.desk.now
-    ⊥ (OutOfMemory ≡ VolumeFault) (λ never. absurd never)
-    (climbs_none (g.V.Volume.bytes c.args.volume.now) (g.V.Volume.is_image c.args.volume.now) (g.V.Volume.was_image c.args.volume.now) (g.V.Volume.moment c.args.volume.now) c.args.desk.now
-    (g.met.V.Volume.only_now c.args.volume.now) c.requires.kept.images)
+    climbs_none (g.V.Volume.bytes c.args.volume.now) (g.V.Volume.is_image c.args.volume.now) (g.V.Volume.was_image c.args.volume.now) (g.V.Volume.synced c.args.volume.now) (g.V.Volume.moment c.args.volume.now) c.args.desk.now (OutOfMemory ≡ VolumeFault)
+    (g.met.V.Volume.only_now c.args.volume.now) c.requires.kept.images
 
 pub returns-in-Some-advance-clause-climbs : goal.returns-in-Some-advance-clause-climbs
 returns-in-Some-advance-clause-climbs g c =
-    climbs_weaker (g.V.Volume.bytes c.args.volume.now) (g.V.Volume.was_image c.advance.new.volume) (g.V.Volume.moment c.args.volume.now) (g.V.Volume.moment c.advance.new.volume) c.args.desk.now c.advance.new.desk
+    climbs_weaker (g.V.Volume.bytes c.args.volume.now) (g.V.Volume.was_image c.advance.new.volume) (g.V.Volume.synced c.advance.new.volume) (g.V.Volume.moment c.args.volume.now) (g.V.Volume.moment c.advance.new.volume) c.args.desk.now c.advance.new.desk
     (c.advance.result ≡ Some VolumeFault) (c.in-Some-advance.status ≡ VolumeFault) (λ same. cc (same, c.in-Some-advance.is))
     (climbs_then (g.V.Volume.bytes c.args.volume.now) (g.V.Volume.bytes c.loop.volume) (g.V.Volume.moment c.args.volume.now) (g.V.Volume.moment c.loop.volume) (g.V.Volume.moment c.advance.new.volume)
-    (g.V.Volume.was_image c.loop.volume) (g.V.Volume.was_image c.advance.new.volume) (g.V.Volume.is_image c.advance.new.volume) c.args.desk.now c.loop.desk c.advance.new.desk (c.advance.result ≡ Some VolumeFault)
+    (g.V.Volume.was_image c.loop.volume) (g.V.Volume.was_image c.advance.new.volume) (g.V.Volume.synced c.loop.volume) (g.V.Volume.synced c.advance.new.volume) (g.V.Volume.is_image c.advance.new.volume)
+    c.args.desk.now c.loop.desk c.advance.new.desk (c.advance.result ≡ Some VolumeFault)
     c.loop.invariant.told c.loop.invariant.climbs c.advance.ensures.time c.advance.ensures.grows c.advance.ensures.during c.advance.ensures.now (g.met.V.Volume.only_now c.advance.new.volume))
 
 none_failed : (status : Option Status) → status ≡ None → status ≡ Some VolumeFault → ⊥
@@ -59,18 +47,13 @@ loop-preserved g c =
       run = λ start input before left written shows same. c.in_default-advance.ensures.run start input before (c.loop.invariant.run start input before left written shows same);
       kept = c.advance.ensures.kept (none_failed c.advance.result none);
       told = c.advance.ensures.told (none_failed c.advance.result none) ∙ c.loop.invariant.told;
-      during = during_then (g.V.Volume.bytes c.args.volume.now) (g.V.Volume.bytes c.loop.volume) (g.V.Volume.moment c.args.volume.now) (g.V.Volume.moment c.loop.volume) (g.V.Volume.moment c.advance.new.volume)
-          (g.V.Volume.was_image c.loop.volume) (g.V.Volume.was_image c.advance.new.volume) c.args.desk.now c.loop.desk c.advance.new.desk ⊥
-          c.loop.invariant.told c.loop.invariant.time.later c.advance.ensures.time c.loop.invariant.grows (by_one_front c.loop.desk.log c.advance.new.desk.log (c.advance.result ≡ Some VolumeFault) c.advance.ensures.grows) c.loop.invariant.during
-          (during_weaker (g.V.Volume.bytes c.loop.volume) (g.V.Volume.was_image c.advance.new.volume (g.V.Volume.moment c.loop.volume)) c.loop.desk c.advance.new.desk
-          (c.advance.result ≡ Some VolumeFault) ⊥ (none_failed c.advance.result none) c.advance.ensures.during);
       time = elapses_then (g.V.Volume.moment c.args.volume.now) (g.V.Volume.moment c.loop.volume) (g.V.Volume.moment c.advance.new.volume) (g.V.Volume.was_image c.args.volume.now) (g.V.Volume.was_image c.loop.volume) (g.V.Volume.was_image c.advance.new.volume)
-          c.loop.invariant.time c.advance.ensures.time;
-      grows = front_then c.args.desk.now.log c.loop.desk.log c.advance.new.desk.log c.loop.invariant.grows (by_one_front c.loop.desk.log c.advance.new.desk.log (c.advance.result ≡ Some VolumeFault) c.advance.ensures.grows);
-      climbs = climbs_weaker (g.V.Volume.bytes c.args.volume.now) (g.V.Volume.was_image c.advance.new.volume) (g.V.Volume.moment c.args.volume.now) (g.V.Volume.moment c.advance.new.volume) c.args.desk.now c.advance.new.desk
+          (g.V.Volume.synced c.args.volume.now) (g.V.Volume.synced c.loop.volume) (g.V.Volume.synced c.advance.new.volume) c.loop.invariant.time c.advance.ensures.time;
+      climbs = climbs_weaker (g.V.Volume.bytes c.args.volume.now) (g.V.Volume.was_image c.advance.new.volume) (g.V.Volume.synced c.advance.new.volume) (g.V.Volume.moment c.args.volume.now) (g.V.Volume.moment c.advance.new.volume) c.args.desk.now c.advance.new.desk
           (c.advance.result ≡ Some VolumeFault) ⊥ (none_failed c.advance.result none)
           (climbs_then (g.V.Volume.bytes c.args.volume.now) (g.V.Volume.bytes c.loop.volume) (g.V.Volume.moment c.args.volume.now) (g.V.Volume.moment c.loop.volume) (g.V.Volume.moment c.advance.new.volume)
-          (g.V.Volume.was_image c.loop.volume) (g.V.Volume.was_image c.advance.new.volume) (g.V.Volume.is_image c.advance.new.volume) c.args.desk.now c.loop.desk c.advance.new.desk (c.advance.result ≡ Some VolumeFault)
+          (g.V.Volume.was_image c.loop.volume) (g.V.Volume.was_image c.advance.new.volume) (g.V.Volume.synced c.loop.volume) (g.V.Volume.synced c.advance.new.volume) (g.V.Volume.is_image c.advance.new.volume)
+          c.args.desk.now c.loop.desk c.advance.new.desk (c.advance.result ≡ Some VolumeFault)
           c.loop.invariant.told c.loop.invariant.climbs c.advance.ensures.time c.advance.ensures.grows c.advance.ensures.during c.advance.ensures.now (g.met.V.Volume.only_now c.advance.new.volume));
       source_faults = omega (arith, c.loop.invariant.source_faults, c.advance.ensures.source_faults);
       sink_faults = omega (arith, c.loop.invariant.sink_faults, c.advance.ensures.sink_faults);

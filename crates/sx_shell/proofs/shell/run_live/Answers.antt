@@ -4,8 +4,10 @@ use Rattle.sx_layout.proofs.Legal.{stands_reads}
 use Rattle.sx_run.specs.Lines.{lines_of}
 use Rattle.sx_run.specs.Run.{Course, started}
 use Rattle.sx_shell.proofs.Crashes.{safe_run, safe_none}
-use Rattle.sx_shell.proofs.Outcomes.{at_told, when_told, started_legal, outcome_legal, refused, not_other, found_damage}
+use Rattle.sx_shell.proofs.Outcomes.{at_told, when_told, told_from, started_legal, outcome_legal, refused, not_other, found_damage}
 use Rattle.sx_shell.proofs.Standing.{stands_at_end}
+use Rattle.sx_log.specs.Reading.{opened_bytes}
+use Rattle.sx_shell.specs.Outcome.{CommitFailed}
 use Rattle.sx_shell.specs.declared.desk.Desk.{Desk}
 use Rattle.sx_shell.specs.declared.status.Status.TheVariants as status
 use Rattle.sx_shell.proofs.shell.run_live.Goals as goal
@@ -24,8 +26,8 @@ returns-in-Err-Failed-clause-run g c = λ image input before commits told stands
       nothing_more before (g.K.Sink.written c.args.sink.now) written,
       inl (refl, refl),
       λ differs. absurd (differs refl),
-      refused start status.VolumeFault (status.VolumeFault ≡ status.VolumeFault) image (g.V.Volume.moment c.args.volume.now) (g.V.Volume.moment c.open.new.volume)
-          (g.V.Volume.is_image c.args.volume.now) (g.V.Volume.is_image c.open.new.volume) (g.V.Volume.was_image c.open.new.volume) stands tt (g.met.V.Volume.counts_now c.open.new.volume) synced,
+      refused start status.VolumeFault ((status.VolumeFault ≡ status.VolumeFault) × CommitFailed start input [] start) image (g.V.Volume.moment c.args.volume.now) (g.V.Volume.moment c.open.new.volume)
+          (g.V.Volume.is_image c.args.volume.now) (g.V.Volume.is_image c.open.new.volume) (g.V.Volume.was_image c.open.new.volume) (g.V.Volume.synced c.args.volume.now) (g.V.Volume.synced c.open.new.volume) stands tt (g.met.V.Volume.counts_now c.open.new.volume) synced,
     )
 
 pub returns-in-Err-Damaged-clause-run : goal.returns-in-Err-Damaged-clause-run
@@ -56,8 +58,8 @@ returns-in-Err-OutOfMemory-clause-run g c = λ image input before commits told s
       nothing_more before (g.K.Sink.written c.args.sink.now) written,
       ([], lines_of input, refl, (refl, refl)),
       λ _. (image, bytes ∙ told, stands),
-      refused start status.OutOfMemory (status.OutOfMemory ≡ status.VolumeFault) image (g.V.Volume.moment c.args.volume.now) (g.V.Volume.moment c.open.new.volume)
-          (g.V.Volume.is_image c.args.volume.now) (g.V.Volume.is_image c.open.new.volume) (g.V.Volume.was_image c.open.new.volume) stands tt (g.met.V.Volume.counts_now c.open.new.volume) synced,
+      refused start status.OutOfMemory ((status.OutOfMemory ≡ status.VolumeFault) × CommitFailed start input [] start) image (g.V.Volume.moment c.args.volume.now) (g.V.Volume.moment c.open.new.volume)
+          (g.V.Volume.is_image c.args.volume.now) (g.V.Volume.is_image c.open.new.volume) (g.V.Volume.was_image c.open.new.volume) (g.V.Volume.synced c.args.volume.now) (g.V.Volume.synced c.open.new.volume) stands tt (g.met.V.Volume.counts_now c.open.new.volume) synced,
     )
 
 pub returns-in_default-clause-run : goal.returns-in_default-clause-run
@@ -72,9 +74,9 @@ returns-in_default-clause-run g c = λ image input before commits told stands le
       left,
       nothing_more before (g.K.Sink.written c.args.sink.now) written,
       ([], lines_of input, refl, (refl, refl)),
-      λ _. stands_at_end bytes (g.V.Volume.bytes c.open.new.volume) (g.V.Volume.bytes c.open.new.volume) image c.in-Ok.log commits told c.in-Ok.ensures.told refl stands.0 c.in-Ok.ensures.kept.groups given,
-      inl (safe_none start (status.OutOfMemory ≡ status.VolumeFault) image (g.V.Volume.moment c.args.volume.now) (g.V.Volume.moment c.open.new.volume)
-          (g.V.Volume.is_image c.args.volume.now) (g.V.Volume.is_image c.open.new.volume) (g.V.Volume.was_image c.open.new.volume) stands synced (g.met.V.Volume.counts_now c.open.new.volume)),
+      λ _. stands_at_end bytes (g.V.Volume.bytes c.open.new.volume) (g.V.Volume.bytes c.open.new.volume) image c.in-Ok.log commits told (told_from opened_bytes bytes (g.V.Volume.bytes c.open.new.volume) c.in-Ok.ensures.bytes) refl stands.0 c.in-Ok.ensures.kept.groups given,
+      inl (safe_none start ((status.OutOfMemory ≡ status.VolumeFault) × CommitFailed start input [] start) image (g.V.Volume.moment c.args.volume.now) (g.V.Volume.moment c.open.new.volume)
+          (g.V.Volume.is_image c.args.volume.now) (g.V.Volume.is_image c.open.new.volume) (g.V.Volume.was_image c.open.new.volume) (g.V.Volume.synced c.args.volume.now) (g.V.Volume.synced c.open.new.volume) stands synced (g.met.V.Volume.counts_now c.open.new.volume)),
     )
 
 pub returns-clause-run : goal.returns-clause-run
@@ -89,20 +91,21 @@ returns-clause-run g c = λ image input before commits told stands left written.
     let shows = c.in-Ok-new.ensures.shows commits (g.C.Clock.moments c.args.clock.now) given stands.0 in
     let ran = c.drive.ensures.run start input before left written shows refl in
     let end = outcome_legal start input ran.0 c.drive.result ran.1 ran.2 ran.5 (started_legal commits (g.C.Clock.moments c.args.clock.now) stands.0) in
-    let during = when_told _ bytes opened image told c.in-Ok.ensures.told c.drive.ensures.during in
-    let now = when_told _ bytes opened image told c.in-Ok.ensures.told c.drive.ensures.now in (
+    let told_still = told_from opened_bytes bytes opened c.in-Ok.ensures.bytes in (
       ran.0,
       ran.1,
       ran.2,
       ran.3,
       ran.4,
       ran.5,
-      λ ok. stands_at_end bytes opened (g.V.Volume.bytes c.drive.new.volume) image new.log ran.2.commits told c.in-Ok.ensures.told (c.drive.ensures.told ok) end.0.commits
+      λ ok. stands_at_end bytes opened (g.V.Volume.bytes c.drive.new.volume) image new.log ran.2.commits told told_still (c.drive.ensures.told ok) end.0.commits
           (c.drive.ensures.kept ok).groups ran.6,
-      inl (safe_run start ran.2 (c.drive.result ≡ status.VolumeFault) image (g.V.Volume.moment c.args.volume.now) (g.V.Volume.moment c.open.new.volume) (g.V.Volume.moment c.drive.new.volume)
-          (g.V.Volume.is_image c.args.volume.now) (g.V.Volume.is_image c.drive.new.volume) (g.V.Volume.was_image c.open.new.volume) (g.V.Volume.was_image c.drive.new.volume) old new
-          stands synced c.drive.ensures.time (c.in-Ok-new.ensures.same_log ∙ given) ran.6 ran.7 end.0 end.1 during now
-          (when_told _ bytes opened image told c.in-Ok.ensures.told c.drive.ensures.climbs)),
+      inl (safe_run start ran.2 (c.drive.result ≡ status.VolumeFault) ((c.drive.result ≡ status.VolumeFault) × CommitFailed start input ran.1 ran.2) image
+          (g.V.Volume.moment c.args.volume.now) (g.V.Volume.moment c.open.new.volume) (g.V.Volume.moment c.drive.new.volume)
+          (g.V.Volume.is_image c.args.volume.now) (g.V.Volume.is_image c.drive.new.volume) (g.V.Volume.was_image c.open.new.volume) (g.V.Volume.was_image c.drive.new.volume)
+          (g.V.Volume.synced c.args.volume.now) (g.V.Volume.synced c.open.new.volume) (g.V.Volume.synced c.drive.new.volume) old new
+          stands synced c.drive.ensures.time (c.in-Ok-new.ensures.same_log ∙ given) ran.6 (λ fault. let in_commit = ran.7 fault in (in_commit.0, (fault, in_commit.1))) end.0 end.1
+          (g.met.V.Volume.counts_now c.drive.new.volume) (when_told _ bytes opened image told told_still c.drive.ensures.climbs)),
     )
 
 pub returns-clause-damaged_exactly : goal.returns-clause-damaged_exactly

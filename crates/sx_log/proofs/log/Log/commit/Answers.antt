@@ -5,7 +5,6 @@ use Rattle.sx_log.specs.Row.{shown, group_of}
 use Rattle.sx_log.specs.declared.group.Row.{Row}
 use Rattle.sx_log.specs.declared.fault.CommitFault.TheVariants.{Failed}
 use Rattle.sx_log.proofs.Groups.{all_behind, with_or_without, all_added}
-use Rattle.sx_log.proofs.Moments.{images_now}
 use Rattle.sx_log.specs.Written.{Commits}
 use Rattle.sx_volume.specs.Images.{Follows}
 use Rattle.sx_log.proofs.Shown.{same_group, shown-pushed, end_of-pushed}
@@ -24,9 +23,7 @@ returns-in_err-end-clause-first_stage g c = λ failed.
     let at_end : c.self.inside.end ≡ end_of groups = c.self.invariant ∙ ap (λ (list : List Group). end_of list) c.self.view_is in
     let told : c.write_group.result ≡ Err (Failed 1) = search rules in
     let behind = c.write_group.ensures.first_stage told in
-    let have = all_behind groups bytes c.self.inside.end (g.V.Volume.is_image c.args.volume.now) (g.V.Volume.was_image c.write_group.new.volume (g.V.Volume.moment c.args.volume.now)) at_end c.requires.kept.images behind in
-    images_now bytes (g.V.Volume.is_image c.write_group.new.volume) (g.V.Volume.was_image c.write_group.new.volume (g.V.Volume.moment c.args.volume.now)) (λ image. HasGroups image groups)
-    (λ image now. g.met.V.Volume.counts_now c.write_group.new.volume (g.V.Volume.moment c.args.volume.now) image c.write_group.ensures.time.later now) have
+    all_behind groups bytes c.self.inside.end (g.V.Volume.is_image c.args.volume.now) (g.V.Volume.was_image c.write_group.new.volume (g.V.Volume.moment c.args.volume.now)) at_end c.requires.kept.images behind
 
 pub returns-in_err-end-clause-during : goal.returns-in_err-end-clause-during
 returns-in_err-end-clause-during g c =
@@ -42,13 +39,6 @@ returns-in_err-end-clause-during g c =
     same_group c.args.time (to_z w64 (of_z w64 c.args.time)) c.args.next c.args.body.now c.in_ok-to_vec.field-0.items same_body (to_z-of_z w64 c.args.time range) in
     let during = subst (λ (one : Group). IfSome bytes (λ all. Follows (Commits c.self.inside.end one all) (g.V.Volume.is_image c.args.volume.now) (g.V.Volume.was_image c.write_group.new.volume (g.V.Volume.moment c.args.volume.now)))) same c.write_group.ensures.during in
     with_or_without groups group bytes c.self.inside.end (g.V.Volume.is_image c.args.volume.now) (g.V.Volume.was_image c.write_group.new.volume (g.V.Volume.moment c.args.volume.now)) at_end is c.requires.kept.groups c.requires.kept.images during
-
-pub returns-in_err-end-clause-second_stage : goal.returns-in_err-end-clause-second_stage
-returns-in_err-end-clause-second_stage g c = λ _.
-    images_now (g.V.Volume.bytes c.args.volume.now) (g.V.Volume.is_image c.write_group.new.volume) (g.V.Volume.was_image c.write_group.new.volume (g.V.Volume.moment c.args.volume.now))
-    (λ image. HasGroups image c.args.self.now ⊎ HasGroups image (c.args.self.now ++ group_of c.args.time c.args.next c.args.body.now ∷ []))
-    (λ image now. g.met.V.Volume.counts_now c.write_group.new.volume (g.V.Volume.moment c.args.volume.now) image c.write_group.ensures.time.later now)
-    (returns-in_err-end-clause-during g c)
 
 pub returns-clause-during : goal.returns-clause-during
 returns-clause-during g c =

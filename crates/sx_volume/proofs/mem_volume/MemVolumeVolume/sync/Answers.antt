@@ -1,4 +1,4 @@
-use Rattle.sx_volume.proofs.Told.{failed_images, told_sync, size_sync, calm_sync, durable_sync, images_sync}
+use Rattle.sx_volume.proofs.Told.{failed_images, told_sync, size_sync, calm_sync, durable_sync, images_sync, one_sync, time_sync}
 use Rattle.sx_volume.proofs.mem_volume.MemVolumeVolume.sync.Goals as goal
 
 pub returns-in_err-keep-clause-images : goal.returns-in_err-keep-clause-images
@@ -18,3 +18,9 @@ returns-clause-durable c = durable_sync _ _ c.in_ok-keep.ensures.done
 
 pub returns-clause-images : goal.returns-clause-images
 returns-clause-images c = images_sync _ _ c.in_ok-keep.ensures.done
+
+pub returns-clause-synced : goal.returns-clause-synced
+returns-clause-synced c = one_sync _ _ c.in_ok-keep.ensures.done
+
+pub returns-clause-time : goal.returns-clause-time
+returns-clause-time c = time_sync _ _ c.in_ok-keep.ensures.done
