@@ -20,7 +20,7 @@ IsFront {A} front whole = (more : List A) × (whole ≡ front ++ more)
 abbrev pub StandsWithNext : Course → List ℕ → Type 0
 StandsWithNext end image = (moment : ℤ) × FitsSigned w64 moment × Stands image (end.commits ++ next_commit end moment ∷ [])
 
--- A commit failed at its second stage: since this moment a sync, that of its group, had succeeded.
+-- A commit failed at its second stage, which begins with the success of a sync: one had succeeded since this moment.
 abbrev pub FailedSecond : Type 0 → ℕ → (ℕ → Type 0) → Type 0
 FailedSecond failed from has = failed × HasSynced from has
 
