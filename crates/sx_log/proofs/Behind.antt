@@ -1,11 +1,11 @@
 -- Calls that change nothing up to a gate, and then those that open it.
-use Rattle.std.proofs.Common.{◌≡◌, inl, inr, ℕ, ◌+◌, ◌<◌, ◌≤◌, List, length, take, Option, None, Some, IfSome, refl, sym, ◌∙◌, ap, subst, arith}
-use Rattle.std.proofs.lemmas.List.{length-take, take-take}
+use Rattle.std.proofs.Common.{◌≡◌, inl, inr, ℕ, ◌+◌, ◌<◌, ◌≤◌, List, length, take, slice_set, Option, None, Some, IfSome, refl, sym, ◌∙◌, ap, subst, arith}
+use Rattle.std.proofs.lemmas.List.{length-take, take-take, set-set}
 use Rattle.std.specs.Option.{option_map}
 use Rattle.sx_layout.specs.Group.{Group}
 use Rattle.sx_log.proofs.Moments.{Adds, follows_within, follows_weaker, follows_then}
-use Rattle.sx_log.specs.Written.{with_closed_group, IsBehind, Commits}
-use Rattle.sx_volume.specs.Images.{Only, IsWithin, Follows, Appends, Puts}
+use Rattle.sx_log.specs.Written.{with_closed_group, with_group, IsBehind, Commits}
+use Rattle.sx_volume.specs.Images.{Only, IsWithin, Follows, Appends, Puts, KeptSince}
 
 behind_same : (gate : ℕ) (c : List ℕ) → IsBehind gate c c
 behind_same gate c below = refl
@@ -50,3 +50,17 @@ pub only_behind : (gate : ℕ) (group : Group) (bytes : Option (List ℕ)) (old 
     → IfSome bytes (λ all. Follows (Commits gate group all) old new)
 only_behind gate group None old new follows = tt
 only_behind gate group (Some all) old new follows = follows_weaker (IsBehind gate) (Commits gate group all) old new (λ a b first. inl first) follows
+
+-- Since the group was kept behind the closed gate, each image has it once the gate is opened.
+pub kept_closed : (gate : ℕ) (group : Group) (bytes closed : Option (List ℕ)) (from mid at : ℕ) (now : List ℕ → Type 0) (is : ℕ → List ℕ → Type 0) (had has : ℕ → Type 0)
+    → closed ≡ option_map (λ all. with_closed_group gate group all) bytes → IfSome closed (λ all. Only all now) → from ≤ mid → IfSome closed (λ _. (mid < at) × had at) → (had at → has at)
+    → Follows (Puts gate) now (is at) → IfSome bytes (λ all. KeptSince from is has (λ c. slice_set c gate 1 ≡ with_group gate group all))
+kept_closed gate group None closed from mid at now is had has is_closed durable le synced on follows = tt
+kept_closed gate group (Some all) closed from mid at now is had has is_closed durable le synced on follows =
+    let only : Only (with_closed_group gate group all) now = subst (λ (b : Option (List ℕ)). IfSome b (λ bytes. Only bytes now)) is_closed durable in
+    let here : (mid < at) × had at = subst (λ (b : Option (List ℕ)). IfSome b (λ _. (mid < at) × had at)) is_closed synced in
+    (at, omega (arith, le, here.0), on here.1, λ c left. let by = follows c left in by_step c (subst (λ (d : List ℕ). Puts gate d c) (only by.0 by.1) by.2))
+  where
+    by_step : (c : List ℕ) → Puts gate (with_closed_group gate group all) c → slice_set c gate 1 ≡ with_group gate group all
+    by_step c (inl same) = ap (λ (d : List ℕ). slice_set d gate 1) same
+    by_step c (inr put) = ap (λ (d : List ℕ). slice_set d gate 1) put.2 ∙ set-set (with_closed_group gate group all) gate put.0 1

@@ -6,7 +6,7 @@ use Rattle.std.proofs.lemmas.List.{append-nil, take_at}
 use Rattle.sx_layout.specs.Group.{Group, IsGroup, AreGroups, group_bytes, opened, HasGroups, end_of}
 use Rattle.std.specs.Option.{option_map}
 use Rattle.sx_log.specs.Written.{with_closed_group, with_group, IsBehind, Commits}
-use Rattle.sx_volume.specs.Images.{Only, Follows, Puts}
+use Rattle.sx_volume.specs.Images.{Only, Follows, Puts, KeptSince}
 
 pub length-group_bytes : (group : Group) → length (group_bytes group) ≡ 16 + length group.body
 length-group_bytes group = omega arith
@@ -117,6 +117,22 @@ with_or_without groups group (Some all) gate old new at_end is has have follows 
     (λ (first : IsBehind gate from.0 c). inl (behind groups from.0 (have from.0 from.1) c (subst (λ n. IsBehind n from.0 c) at_end first)))
     (λ (second : Puts gate (with_closed_group gate group all) c). puts groups all has group is c (subst (λ n. Puts n (with_closed_group n group all) c) at_end second))
     from.2
+
+-- And since its group was kept behind the closed gate.
+pub kept_group : (groups : List Group) (group : Group) (bytes : Option (List ℕ)) (gate from : ℕ) (was : ℕ → List ℕ → Type 0) (has : ℕ → Type 0) → gate ≡ end_of groups → IsGroup group
+    → IfSome bytes (λ all. HasGroups all groups)
+    → IfSome bytes (λ all. KeptSince from was has (λ c. slice_set c gate 1 ≡ with_group gate group all))
+    → IfSome bytes (λ _. KeptSince from was has (λ c. HasGroups (slice_set c (end_of groups) 1) (groups ++ group ∷ [])))
+kept_group groups group None gate from was has at_end is has_groups kept = tt
+kept_group groups group (Some all) gate from was has at_end is has_groups kept = (
+  kept.0,
+  kept.1,
+  kept.2,
+  λ c left.
+      let same : slice_set c (end_of groups) 1 ≡ with_group (end_of groups) group all =
+      ap (λ n. slice_set c n 1) (sym at_end) ∙ kept.3 c left ∙ ap (λ n. with_group n group all) at_end in
+      subst (λ (bytes : List ℕ). HasGroups bytes (groups ++ group ∷ [])) (sym same) (added groups all has_groups group is),
+)
 
 -- What stands for the bytes after the commit.
 pub all_added : (groups : List Group) (group : Group) (bytes written : Option (List ℕ)) (gate : ℕ) (image : List ℕ → Type 0) → gate ≡ end_of groups → IsGroup group

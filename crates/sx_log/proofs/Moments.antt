@@ -1,6 +1,6 @@
 -- How calls on a volume follow on one another, for whoever knows the tests and laws of a volume alone. What time does over
 -- several calls stands in sx_volume's lemmas on images.
-use Rattle.std.proofs.Common.{⊎_elim, ◌⊎◌, ℕ, ◌≤◌, List, Option, None, Some, IfSome}
+use Rattle.std.proofs.Common.{⊎_elim, ◌⊎◌, ℕ, ◌≤◌, List}
 use Rattle.sx_volume.specs.Images.{IsWithin, Follows}
 
 -- what passes the second test for a moment before a call passed it before, or passes it for the call's own start

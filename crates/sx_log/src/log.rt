@@ -1,10 +1,10 @@
-ghost use Rattle.std.specs.Prelude.{◌≡◌, ◌<◌, ◌≤◌, ◌+◌, ◌^◌, ◌++◌, ◌⊎◌, [], ◌∷◌, List, ℕ, Some, length, OnOk, OnErr, IfSome, IfOk, IfErr, is_some, IsErrOf, slice_get};
+ghost use Rattle.std.specs.Prelude.{◌≡◌, ◌<◌, ◌≤◌, ◌+◌, ◌^◌, ◌++◌, ◌⊎◌, [], ◌∷◌, List, ℕ, Some, length, OnOk, OnErr, IfSome, IfOk, IfErr, is_some, IsErrOf, slice_get, slice_set};
 ghost use Rattle.sx_outside.specs.Faults.{Rose};
 ghost use Rattle.sx_layout.specs.Group.{Group, HasGroups, end_of, group_limit, last_time, last_next};
 ghost use Rattle.sx_log.specs.Keeps.{Keeps};
 ghost use Rattle.sx_log.specs.Row.{group_of, shown};
 ghost use Rattle.sx_model.specs.Commit.{first_time};
-ghost use Rattle.sx_volume.specs.Images.{Elapses, HasSynced};
+ghost use Rattle.sx_volume.specs.Images.{Elapses, KeptSince};
 
 use crate::CommitFault;
 use crate::group::Row;
@@ -115,7 +115,7 @@ impl Log {
         ensures nothing_meanwhile { IsErrOf result CommitFault.OutOfMemory → IfSome (V.bytes volume.old) (λ _. (image : List ℕ) → V.was_image volume.new (V.moment volume.old) image → HasGroups image self.old) }
         ensures stage { IfErr result (λ fault. (stage : ℕ) → fault ≡ CommitFault.Failed stage → (stage ≡ 1) ⊎ (stage ≡ 2)) }
         ensures first_stage { IsErrOf result (CommitFault.Failed 1) → IfSome (V.bytes volume.old) (λ _. (image : List ℕ) → V.was_image volume.new (V.moment volume.old) image → HasGroups image self.old) }
-        ensures second_stage { IsErrOf result (CommitFault.Failed 2) → IfSome (V.bytes volume.old) (λ _. HasSynced (V.moment volume.old) (V.synced volume.new)) }
+        ensures second_stage { IsErrOf result (CommitFault.Failed 2) → IfSome (V.bytes volume.old) (λ _. KeptSince (V.moment volume.old) (V.was_image volume.new) (V.synced volume.new) (λ image. HasGroups (slice_set image (end_of self.old) 1) (self.old ++ group_of time next body.now ∷ []))) }
         ensures during { IfSome (V.bytes volume.old) (λ _. (image : List ℕ) → V.was_image volume.new (V.moment volume.old) image → HasGroups image self.old ⊎ HasGroups image (self.old ++ group_of time next body.now ∷ [])) }
         ensures time { Elapses (V.moment volume.old) (V.moment volume.new) (V.was_image volume.old) (V.was_image volume.new) (V.synced volume.old) (V.synced volume.new) }
         ensures cause { IfErr result (λ fault. (stage : ℕ) → fault ≡ CommitFault.Failed stage → Rose (V.faults volume.old) (V.faults volume.new)) }

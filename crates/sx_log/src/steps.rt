@@ -6,7 +6,7 @@ ghost use Rattle.sx_layout.specs.Group.{group_bytes, group_limit};
 ghost use Rattle.sx_log.specs.Row.{shown};
 ghost use Rattle.sx_log.specs.Written.{with_group, IsBehind, Commits};
 ghost use Rattle.sx_volume.specs.Held.{IsHeldFor, held_piece};
-ghost use Rattle.sx_volume.specs.Images.{Only, IsWithin, Follows, Puts, Elapses, HasSynced};
+ghost use Rattle.sx_volume.specs.Images.{Only, IsWithin, Follows, Puts, Elapses, KeptSince};
 
 use crate::CommitFault;
 use crate::group::{CLOSED, OPEN, Row, sealed_bytes};
@@ -32,7 +32,7 @@ pub(crate) fn write_group<V: Volume>(
     ensures no_image_more { IsErrOf result CommitFault.OutOfMemory → IsWithin (V.is_image volume.old) (V.was_image volume.new (V.moment volume.old)) }
     ensures stage { IfErr result (λ fault. (stage : ℕ) → fault ≡ CommitFault.Failed stage → (stage ≡ 1) ⊎ (stage ≡ 2)) }
     ensures first_stage { IsErrOf result (CommitFault.Failed 1) → Follows (IsBehind gate) (V.is_image volume.old) (V.was_image volume.new (V.moment volume.old)) }
-    ensures second_stage { IsErrOf result (CommitFault.Failed 2) → IfSome (V.bytes volume.old) (λ _. HasSynced (V.moment volume.old) (V.synced volume.new)) }
+    ensures second_stage { IsErrOf result (CommitFault.Failed 2) → IfSome (V.bytes volume.old) (λ all. KeptSince (V.moment volume.old) (V.was_image volume.new) (V.synced volume.new) (λ image. slice_set image gate OPEN ≡ with_group gate (shown row.now) all)) }
     ensures during { IfSome (V.bytes volume.old) (λ all. Follows (Commits gate (shown row.now) all) (V.is_image volume.old) (V.was_image volume.new (V.moment volume.old))) }
     ensures cause { IfErr result (λ fault. (stage : ℕ) → fault ≡ CommitFault.Failed stage → Rose (V.faults volume.old) (V.faults volume.new)) }
     ensures never_falls { V.faults volume.old ≤ V.faults volume.new }
@@ -74,7 +74,7 @@ fn stage<V: Volume>(volume: &mut V, gate: u64) -> Result<(), Failed>
     ensures spare { V.spare volume.old ≤ V.spare volume.new + 3 }
     ensures cause { OnErr result (Rose (V.faults volume.old) (V.faults volume.new)) }
     ensures never_falls { V.faults volume.old ≤ V.faults volume.new }
-    ensures synced { OnOk result (IfSome (V.bytes volume.new) (λ _. HasSynced (V.moment volume.old) (V.synced volume.new))) }
+    ensures synced { OnOk result (IfSome (V.bytes volume.new) (λ _. (V.moment volume.old < V.moment volume.new) × V.synced volume.new (V.moment volume.new))) }
     ensures images { Follows (IsBehind gate) (V.is_image volume.old) (V.was_image volume.new (V.moment volume.old)) }
     ensures time { Elapses (V.moment volume.old) (V.moment volume.new) (V.was_image volume.old) (V.was_image volume.new) (V.synced volume.old) (V.synced volume.new) }
 {

@@ -1,10 +1,10 @@
 -- From the groups of a volume to the commits that it stands for.
-use Rattle.std.proofs.Common.{◌≡◌, ◌∙◌, ℕ, ℤ, ◌≤◌, ◌⊎◌, inl, inr, ⊎_elim, List, [], ◌∷◌, ◌++◌, length, Option, refl, ap, sym, subst, append_assoc, append-nil, length-append, arith}
+use Rattle.std.proofs.Common.{◌≡◌, ◌∙◌, ℕ, ℤ, ◌≤◌, ◌⊎◌, inl, inr, ⊎_elim, List, [], ◌∷◌, ◌++◌, length, slice_set, Option, refl, ap, sym, subst, append_assoc, append-nil, length-append, arith, w64, FitsSigned}
 use Rattle.std.specs.Int.{int_max}
 use Rattle.std.specs.Option.{option_map}
 use Rattle.std.proofs.lemmas.Bool.Decides.{leb_tells}
 use Rattle.std.proofs.lemmas.List.{append_cancel_left}
-use Rattle.sx_layout.specs.Group.{Group, HasGroups, Holds, opened, last_time}
+use Rattle.sx_layout.specs.Group.{Group, HasGroups, Holds, opened, end_of, last_time}
 use Rattle.sx_layout.specs.Stands.{Stands, body_of, group_of, groups_from, groups_of}
 use Rattle.sx_log.specs.Reading.{IsLeft, IsSynced}
 use Rattle.sx_model.specs.Commit.{Commit, AreLegal, IsLegal, first_time, replay}
@@ -13,8 +13,8 @@ use Rattle.sx_model.specs.State.{State, empty_document}
 use Rattle.sx_model.specs.Value.{Value, number}
 use Rattle.sx_run.proofs.Legal.{IsLegalCourse, GoesOn, next_legal}
 use Rattle.sx_run.specs.Run.{Course, current, next_commit}
-use Rattle.sx_shell.proofs.Groups.{groups_from-append, length-groups_from, last_time-groups_from, replay-append}
-use Rattle.sx_shell.specs.Crash.{Climbs, IsFront, FailedSecond, StandsWithNext, StandsAtEnd, IsSafe, HasClimbed, next_group, HasNext}
+use Rattle.sx_shell.proofs.Groups.{groups_from-append, last_time-groups_from, replay-append}
+use Rattle.sx_shell.specs.Crash.{Climbs, IsFront, FailedSecond, StandsWithNext, StandsAtEnd, IsSafe, IsSealed, HasClimbed, next_group, HasNext}
 use Rattle.sx_shell.specs.Shows.{Shows}
 use Rattle.sx_shell.specs.declared.desk.Desk.{Desk}
 use Rattle.sx_volume.specs.Images.{Elapses}
@@ -42,13 +42,28 @@ next_shown desk course moment shows =
     ∙ ap (λ (n : ℕ). record { time = (next_commit course moment).time; next = n; body = body_of (option_map number desk.child) }) shows.next
     ∙ ap (λ (child : Option Value). record { time = (next_commit course moment).time; next = (current course).next; body = body_of child }) shows.child
 
-pub next_stands : (desk : Desk) (end : Course) (image : List ℕ) → Shows desk end → IsLegalCourse end → HasNext desk image → StandsWithNext end image
-next_stands desk end image shows legal has =
-    let groups : desk.log ++ next_group desk has.0 ∷ [] ≡ groups_of (end.commits ++ next_commit end has.0 ∷ []) =
-    ap (λ (list : List Group). list ++ next_group desk has.0 ∷ []) shows.groups
-    ∙ ap (λ (group : Group). groups_of end.commits ++ group ∷ []) (next_shown desk end has.0 shows)
-    ∙ sym (groups_from-append end.commits (next_commit end has.0) empty_document) in
-    (has.0, has.1, (next_legal end has.0 legal has.1, holds image (groups_of (end.commits ++ next_commit end has.0 ∷ [])) (subst (λ (list : List Group). HasGroups image list) groups has.2)))
+next_stands : (desk : Desk) (end : Course) (clock : ℤ) (image : List ℕ) → Shows desk end → IsLegalCourse end → FitsSigned w64 clock → HasNext desk clock image → StandsWithNext end clock image
+next_stands desk end clock image shows legal fits has =
+    let groups : desk.log ++ next_group desk clock ∷ [] ≡ groups_of (end.commits ++ next_commit end clock ∷ []) =
+    ap (λ (list : List Group). list ++ next_group desk clock ∷ []) shows.groups
+    ∙ ap (λ (group : Group). groups_of end.commits ++ group ∷ []) (next_shown desk end clock shows)
+    ∙ sym (groups_from-append end.commits (next_commit end clock) empty_document) in
+    (next_legal end clock legal fits, holds image (groups_of (end.commits ++ next_commit end clock ∷ [])) (subst (λ (list : List Group). HasGroups image list) groups has))
+
+-- a commit of the desk that failed at its second stage is that of the course
+sealed_second : (desk : Desk) (end : Course) (failed : Type 0) (from : ℕ) (was : ℕ → List ℕ → Type 0) (has : ℕ → Type 0) → failed → Shows desk end → IsLegalCourse end → (sealed : IsSealed desk from was has)
+    → FailedSecond end sealed.clock failed from was has
+sealed_second desk end failed from was has fails shows legal sealed = record {
+  fails = fails;
+  fits = sealed.fits;
+  kept = (
+    sealed.kept.0,
+    sealed.kept.1,
+    sealed.kept.2,
+    λ image left. next_stands desk end sealed.clock (slice_set image (end_of (groups_of end.commits)) 1) shows legal sealed.fits
+        (subst (λ (n : ℕ). HasNext desk sealed.clock (slice_set image n 1)) (ap (λ (groups : List Group). end_of groups) shows.groups) (sealed.kept.3 image left)),
+  );
+}
 
 -- what is left as it was stands for what it stood for
 pub left_stands : (image c : List ℕ) (commits : List Commit) → Stands image commits → IsLeft image c → Stands c commits
@@ -127,54 +142,66 @@ came start end old new more commits shows_old shows_new on grew =
     (ap (λ (list : List Group). list ++ more) (sym shows_old) ∙ sym grew ∙ shows_new ∙ ap (λ (list : List Commit). groups_of list) on ∙ groups_from-split start.commits commits empty_document)
 
 -- The opening came to the success of its sync, and then a script ran.
-pub safe_run : (start end : Course) (failed ended : Type 0) (image : List ℕ) (first mid now : ℕ) (before is_image : List ℕ → Type 0) (was is : ℕ → List ℕ → Type 0) (x y z : ℕ → Type 0) (old new : Desk)
-    → Stands image start.commits → IsSynced image first mid before was x y → Elapses mid now was is y z
-    → old.log ≡ groups_of start.commits → new.log ≡ groups_of end.commits → (failed → Shows new end × ended) → IsLegalCourse end → GoesOn start end
-    → ((t : ℕ) (c : List ℕ) → t ≤ now → is_image c → is t c) → HasClimbed is z mid now old new failed
-    → IsSafe start end ended first now before is_image is x z
-safe_run start end failed ended image first mid now before is_image was is x y z old new stands synced time shows_old shows_new shows legal on counts_now climbs = record {
-  moment = synced.moment;
-  later = synced.later;
-  synced = time.syncs synced.moment synced.here;
-  first = λ t lt sync. synced.first t lt (time.no_sync_before t (omega (arith, lt, synced.no_later)) sync);
-  up_to = λ c left.
-      ⊎_elim
-      (λ (earlier : was first c). ⊎_elim (λ (old_one : before c). inl old_one) (λ (since : was synced.moment c). inr (time.keeps synced.moment c synced.no_later since)) (synced.up_to c earlier))
-      (λ (here : is mid c). inr (time.counts synced.moment c synced.no_later here))
-      (time.nothing_else first c (omega (arith, synced.later, synced.no_later)) left);
-  new = on.0;
-  commits = on.1;
-  last = climbs.last;
-  held = held;
-  no_later = climbs.no_later;
-  since_last = at_last;
-  since = λ c left.
-      ⊎_elim (λ (some : (commits : List Commit) × IsFront start.commits commits × IsFront commits end.commits × Stands c commits). inl some)
-      (λ (later : is climbs.last c).
-      ⊎_elim (λ (all : Stands c end.commits). inl (end.commits, on, ([], sym (append-nil end.commits)), all)) (λ (next : FailedSecond ended climbs.last z × StandsWithNext end c). inr next) (at_last c later))
-      (each_stands start end is synced.moment climbs.last start.commits on.0 ([], sym (append-nil start.commits)) on.1 held c left);
-  at_end = λ c left. at_last c (counts_now climbs.last c climbs.no_later left);
-}
-  where
-    shown : Climbs (λ groups c. HasGroups c groups) is mid climbs.last (groups_of start.commits) (groups_from (replay start.commits empty_document) on.0)
-    shown =
-        subst (λ (groups : List Group). Climbs (λ list c. HasGroups c list) is mid climbs.last groups (groups_from (replay start.commits empty_document) on.0)) shows_old
-        (subst (λ (groups : List Group). Climbs (λ list c. HasGroups c list) is mid climbs.last old.log groups)
-        (came start end old.log new.log climbs.more on.0 shows_old shows_new on.1 climbs.grew) climbs.climbs)
+module _ (start end : Course) (failed ended : Type 0) (image : List ℕ) (first mid now : ℕ) (before is_image : List ℕ → Type 0) (was is : ℕ → List ℕ → Type 0) (x y z : ℕ → Type 0) (old new : Desk)
+    (stands : Stands image start.commits) (synced : IsSynced image first mid before was x y) (time : Elapses mid now was is y z)
+    (shows_old : old.log ≡ groups_of start.commits) (shows_new : new.log ≡ groups_of end.commits) (legal : IsLegalCourse end) (on : GoesOn start end)
+    (counts_now : (t : ℕ) (c : List ℕ) → t ≤ now → is_image c → is t c) (climbs : HasClimbed is z mid now old new failed) where
+  shown : Climbs (λ groups c. HasGroups c groups) is mid climbs.last (groups_of start.commits) (groups_from (replay start.commits empty_document) on.0)
+  shown =
+      subst (λ (groups : List Group). Climbs (λ list c. HasGroups c list) is mid climbs.last groups (groups_from (replay start.commits empty_document) on.0)) shows_old
+      (subst (λ (groups : List Group). Climbs (λ list c. HasGroups c list) is mid climbs.last old.log groups)
+      (came start end old.log new.log climbs.more on.0 shows_old shows_new on.1 climbs.grew) climbs.climbs)
 
-    held : Climbs (λ commits c. Stands c commits) is synced.moment climbs.last start.commits on.0
-    held =
-        climbs_earlier (λ commits c. Stands c commits) is synced.moment mid climbs.last start.commits on.0 synced.no_later
-        (λ c left.
-        ⊎_elim (λ (earlier : was synced.moment c). inl (left_stands image c start.commits stands (synced.since c earlier))) (λ (here : is mid c). inr here)
-        (time.nothing_else synced.moment c synced.no_later left))
-        (climbs_commits is mid climbs.last start.commits on.0 (subst (λ (commits : List Commit). IsLegal commits) on.1 legal.commits) shown)
+  held : Climbs (λ commits c. Stands c commits) is synced.moment climbs.last start.commits on.0
+  held =
+      climbs_earlier (λ commits c. Stands c commits) is synced.moment mid climbs.last start.commits on.0 synced.no_later
+      (λ c left.
+      ⊎_elim (λ (earlier : was synced.moment c). inl (left_stands image c start.commits stands (synced.since c earlier))) (λ (here : is mid c). inr here)
+      (time.nothing_else synced.moment c synced.no_later left))
+      (climbs_commits is mid climbs.last start.commits on.0 (subst (λ (commits : List Commit). IsLegal commits) on.1 legal.commits) shown)
 
-    at_last : (c : List ℕ) → is climbs.last c → StandsAtEnd end (FailedSecond ended climbs.last z) c
-    at_last c left =
-        ⊎_elim (λ (has : HasGroups c new.log). inl (legal.commits, holds c (groups_of end.commits) (subst (λ (list : List Group). HasGroups c list) shows_new has)))
-        (λ (next : FailedSecond failed climbs.last z × HasNext new c). inr (((shows next.0.0).1, next.0.1), next_stands new end c (shows next.0.0).0 legal next.1))
-        (climbs.since_last c left)
+  safe_with : (clock : ℤ) → ((c : List ℕ) → is climbs.last c → StandsAtEnd end clock (FailedSecond end clock ended climbs.last is z) c)
+      → IsSafe start end ended first now before is_image is x z
+  safe_with clock at_last = record {
+    moment = synced.moment;
+    later = synced.later;
+    synced = time.syncs synced.moment synced.here;
+    first = λ t lt sync. synced.first t lt (time.no_sync_before t (omega (arith, lt, synced.no_later)) sync);
+    up_to = λ c left.
+        ⊎_elim
+        (λ (earlier : was first c). ⊎_elim (λ (old_one : before c). inl old_one) (λ (since : was synced.moment c). inr (time.keeps synced.moment c synced.no_later since)) (synced.up_to c earlier))
+        (λ (here : is mid c). inr (time.counts synced.moment c synced.no_later here))
+        (time.nothing_else first c (omega (arith, synced.later, synced.no_later)) left);
+    new = on.0;
+    commits = on.1;
+    last = climbs.last;
+    held = held;
+    no_later = climbs.no_later;
+    clock = clock;
+    since_last = at_last;
+    since = λ c left.
+        ⊎_elim (λ (some : (commits : List Commit) × IsFront start.commits commits × IsFront commits end.commits × Stands c commits). inl some)
+        (λ (later : is climbs.last c).
+        ⊎_elim (λ (all : Stands c end.commits). inl (end.commits, on, ([], sym (append-nil end.commits)), all))
+        (λ (next : FailedSecond end clock ended climbs.last is z × StandsWithNext end clock c). inr next) (at_last c later))
+        (each_stands start end is synced.moment climbs.last start.commits on.0 ([], sym (append-nil start.commits)) on.1 held c left);
+    at_end = λ c left. at_last c (counts_now climbs.last c climbs.no_later left);
+  }
+
+  all_stand : (c : List ℕ) → HasGroups c new.log → Stands c end.commits
+  all_stand c has = (legal.commits, holds c (groups_of end.commits) (subst (λ (list : List Group). HasGroups c list) shows_new has))
+
+  pub safe_run : (failed → Shows new end × ended) → failed ⊎ (failed → ⊥) → IsSafe start end ended first now before is_image is x z
+  safe_run shows (inr fine) = safe_with first_time (λ c left. inl (all_stand c (climbs.since_last fine c left)))
+  safe_run shows (inl fault) =
+      ⊎_elim (λ (all : (c : List ℕ) → is climbs.last c → HasGroups c new.log). safe_with first_time (λ c left. inl (all_stand c (all c left))))
+      (λ (sealed : IsSealed new climbs.last is z).
+      let how = shows fault in
+      let second = sealed_second new end ended climbs.last is z how.1 how.0 legal sealed in
+      safe_with sealed.clock (λ c left.
+      ⊎_elim (λ (has : HasGroups c new.log). inl (all_stand c has)) (λ (next : HasNext new sealed.clock c). inr (second, next_stands new end sealed.clock c how.0 legal sealed.fits next))
+      (sealed.images c left)))
+      (climbs.failing fault)
 
 -- The opening came to the success of its sync, and no line was run.
 pub safe_none : (start : Course) (failed : Type 0) (image : List ℕ) (first now : ℕ) (before is_image : List ℕ → Type 0) (was : ℕ → List ℕ → Type 0) (x y : ℕ → Type 0)
@@ -191,6 +218,7 @@ safe_none start failed image first now before is_image was x y stands synced cou
   last = synced.moment;
   held = (omega arith, λ c left. inr left);
   no_later = synced.no_later;
+  clock = first_time;
   since_last = λ c left. inl (all c left);
   since = λ c left. inl (start.commits, ([], sym (append-nil start.commits)), ([], sym (append-nil start.commits)), all c left);
   at_end = λ c left. inl (all c (counts_now synced.moment c synced.no_later left));

@@ -56,6 +56,16 @@ no_fault VolumeFault after read write volume = absurd (volume refl)
 no_fault (Damaged damage) after read write volume = absurd after
 no_fault OutOfMemory after read write volume = inr refl
 
+-- the volume failed, or not
+pub failed_or_not : (status : Status) → (status ≡ VolumeFault) ⊎ (status ≡ VolumeFault → ⊥)
+failed_or_not Done = inr (λ is. cc is)
+failed_or_not Usage = inr (λ is. cc is)
+failed_or_not ReadFault = inr (λ is. cc is)
+failed_or_not WriteFault = inr (λ is. cc is)
+failed_or_not VolumeFault = inl refl
+failed_or_not (Damaged damage) = inr (λ is. cc is)
+failed_or_not OutOfMemory = inr (λ is. cc is)
+
 -- no damage is told after the opening
 pub no_damage : (status : Status) (damage : Damage) → IsAfterOpening status → status ≡ Damaged damage → ⊥
 no_damage status damage after is = subst IsAfterOpening is after

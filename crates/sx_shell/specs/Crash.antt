@@ -1,39 +1,42 @@
 -- What a crash leaves of a volume over which a script runs.
-use Rattle.std.specs.Prelude.{ℕ, ℤ, ◌≡◌, ◌<◌, ◌≤◌, ◌⊎◌, List, [], ◌∷◌, ◌++◌, Option, IfSome, FitsSigned}
+use Rattle.std.specs.Prelude.{ℕ, ℤ, ◌≡◌, ◌<◌, ◌≤◌, ◌⊎◌, List, [], ◌∷◌, ◌++◌, Option, IfSome, FitsSigned, slice_set}
 use Rattle.std.specs.Int.{int_max, w64}
 use Rattle.std.specs.Option.{option_map}
-use Rattle.sx_layout.specs.Group.{Group, HasGroups, last_time}
-use Rattle.sx_layout.specs.Stands.{Stands, body_of}
+use Rattle.sx_layout.specs.Group.{Group, HasGroups, end_of, last_time}
+use Rattle.sx_layout.specs.Stands.{Stands, body_of, groups_of}
 use Rattle.sx_model.specs.Commit.{Commit, first_time}
 use Rattle.sx_model.specs.Value.{number}
 use Rattle.sx_run.specs.Run.{Course, next_commit}
 use Rattle.sx_shell.specs.declared.desk.Desk.{Desk}
 use Rattle.sx_shell.specs.declared.status.Status.{Status}
 use Rattle.sx_shell.specs.declared.status.Status.TheVariants.{Done, Usage, ReadFault, WriteFault, VolumeFault, Damaged, OutOfMemory}
-use Rattle.sx_volume.specs.Images.{NoSync, HasSynced}
+use Rattle.sx_volume.specs.Images.{NoSync, KeptSince}
 
 -- the list begins with these
 abbrev pub IsFront : {A : Type 0} → List A → List A → Type 0
 IsFront {A} front whole = (more : List A) × (whole ≡ front ++ more)
 
--- The image stands for all commits of the course with the next one, that of its open edits.
-abbrev pub StandsWithNext : Course → List ℕ → Type 0
-StandsWithNext end image = (moment : ℤ) × FitsSigned w64 moment × Stands image (end.commits ++ next_commit end moment ∷ [])
+-- The image stands for all commits of the course with the next one, that of its open edits, at this moment of the clock.
+abbrev pub StandsWithNext : Course → ℤ → List ℕ → Type 0
+StandsWithNext end clock image = Stands image (end.commits ++ next_commit end clock ∷ [])
 
--- A commit failed at its second stage, which begins with the success of a sync: one had succeeded since this moment.
-abbrev pub FailedSecond : Type 0 → ℕ → (ℕ → Type 0) → Type 0
-FailedSecond failed from has = failed × HasSynced from has
+-- A commit failed at its second stage, which begins when a sync has kept its group behind the closed gate: since then each image
+-- stands for the commits with that one, once the gate is opened.
+pub record FailedSecond (end : Course) (clock : ℤ) (failed : Type 0) (from : ℕ) (was : ℕ → List ℕ → Type 0) (has : ℕ → Type 0) : Type 0 where
+  pub fails : failed
+  pub fits : FitsSigned w64 clock
+  pub kept : KeptSince from was has (λ image. StandsWithNext end clock (slice_set image (end_of (groups_of end.commits)) 1))
 
 -- The image stands for all commits of the run, or, where a commit failed at its second stage, for these with that one.
-abbrev pub StandsAtEnd : Course → Type 0 → List ℕ → Type 0
-StandsAtEnd end failed image = Stands image end.commits ⊎ (failed × StandsWithNext end image)
+abbrev pub StandsAtEnd : Course → ℤ → Type 0 → List ℕ → Type 0
+StandsAtEnd end clock second image = Stands image end.commits ⊎ (second × StandsWithNext end clock image)
 
 -- The image stands for the first commits of the run, with all from its start, or, where a commit failed at its second stage, for
 -- all with that one.
-abbrev pub StandsDuring : Course → Course → Type 0 → List ℕ → Type 0
-StandsDuring start end failed image =
+abbrev pub StandsDuring : Course → Course → ℤ → Type 0 → List ℕ → Type 0
+StandsDuring start end clock second image =
     ((commits : List Commit) × IsFront start.commits commits × IsFront commits end.commits × Stands image commits)
-    ⊎ (failed × StandsWithNext end image)
+    ⊎ (second × StandsWithNext end clock image)
 
 -- From one moment on each image stands for these; while the next one comes, for these with or without it; and from a later moment
 -- on, when it had come, the same goes on with it among these, up to the last moment. From that on nothing is said.
@@ -57,9 +60,11 @@ pub record IsSafe (start end : Course) (failed : Type 0) (from now : ℕ) (befor
   pub last : ℕ
   pub held : Climbs (λ commits image. Stands image commits) was moment last start.commits new
   pub no_later : last ≤ now
-  pub since_last : (image : List ℕ) → was last image → StandsAtEnd end (FailedSecond failed last has) image
-  pub since : (image : List ℕ) → was moment image → StandsDuring start end (FailedSecond failed last has) image
-  pub at_end : (image : List ℕ) → is_image image → StandsAtEnd end (FailedSecond failed last has) image
+  -- the moment of the clock at a commit that failed
+  pub clock : ℤ
+  pub since_last : (image : List ℕ) → was last image → StandsAtEnd end clock (FailedSecond end clock failed last was has) image
+  pub since : (image : List ℕ) → was moment image → StandsDuring start end clock (FailedSecond end clock failed last was has) image
+  pub at_end : (image : List ℕ) → is_image image → StandsAtEnd end clock (FailedSecond end clock failed last was has) image
 
 -- statuses of a run whose opening did not come to the success of its sync
 abbrev pub IsBeforeSync : Status → Type 0
@@ -79,40 +84,49 @@ pub record IsUnopened (start end : Course) (status : Status) (written : List ℕ
   pub no_reply : written ≡ []
   pub images : (image : List ℕ) → was from image → before image
 
--- the image has the first of the new groups, with all old ones
-abbrev pub HasBetween : List Group → List Group → List ℕ → Type 0
-HasBetween old new image = (groups : List Group) × IsFront old groups × IsFront groups new × HasGroups image groups
-
 -- the group that a commit of the desk adds, with the clock at this moment
 abbrev pub next_group : Desk → ℤ → Group
 next_group desk moment = record { time = int_max moment (last_time first_time desk.log); next = desk.next; body = body_of (option_map number desk.child) }
 
 -- the image has all groups of the desk, and that of its next commit
-abbrev pub HasNext : Desk → List ℕ → Type 0
-HasNext desk image = (moment : ℤ) × FitsSigned w64 moment × HasGroups image (desk.log ++ next_group desk moment ∷ [])
+abbrev pub HasNext : Desk → ℤ → List ℕ → Type 0
+HasNext desk clock image = HasGroups image (desk.log ++ next_group desk clock ∷ [])
 
--- what each image has that a crash left since the old desk
-abbrev pub During : Option (List ℕ) → (List ℕ → Type 0) → Desk → Desk → Type 0 → Type 0
-During bytes since old new failed = IfSome bytes (λ _. (image : List ℕ) → since image → HasBetween old.log new.log image ⊎ (failed × HasNext new image))
+-- each image since the old desk has its groups, or those of the new one
+abbrev pub During : Option (List ℕ) → (List ℕ → Type 0) → Desk → Desk → Type 0
+During bytes since old new = IfSome bytes (λ _. (image : List ℕ) → since image → HasGroups image old.log ⊎ HasGroups image new.log)
+
+-- each image now has the groups of the desk
+abbrev pub Now : Option (List ℕ) → (List ℕ → Type 0) → Desk → Type 0
+Now bytes is_image desk = IfSome bytes (λ _. (image : List ℕ) → is_image image → HasGroups image desk.log)
+
+-- A commit of the desk failed at its second stage: since its group was kept behind the closed gate, each image has that group once
+-- the gate is opened. Each image has the groups before it, or these with that one.
+pub record IsSealed (desk : Desk) (from : ℕ) (was : ℕ → List ℕ → Type 0) (has : ℕ → Type 0) : Type 0 where
+  pub clock : ℤ
+  pub fits : FitsSigned w64 clock
+  pub kept : KeptSince from was has (λ image. HasNext desk clock (slice_set image (end_of desk.log) 1))
+  pub images : (image : List ℕ) → was from image → HasGroups image desk.log ⊎ HasNext desk clock image
+
+-- A commit of the desk failed. At its first stage each image since its start has the groups before it.
+abbrev pub Failing : Option (List ℕ) → ℕ → (ℕ → List ℕ → Type 0) → (ℕ → Type 0) → Desk → Type 0
+Failing bytes from was has desk = IfSome bytes (λ _. ((image : List ℕ) → was from image → HasGroups image desk.log) ⊎ IsSealed desk from was has)
 
 -- the groups are the old ones, or, where nothing failed, these and one more
 abbrev pub GrowsByOne : List Group → List Group → Type 0 → Type 0
 GrowsByOne old new failed = (new ≡ old) ⊎ ((failed → ⊥) × (group : Group) × (new ≡ old ++ group ∷ []))
 
 -- The groups come one after another, from those of the old desk to those of the new one. Since the last one had come, an image has
--- them all, or, where a commit failed at its second stage, these with its group.
+-- them all, unless a commit failed.
 pub record HasClimbed (was : ℕ → List ℕ → Type 0) (has : ℕ → Type 0) (from now : ℕ) (old new : Desk) (failed : Type 0) : Type 0 where
   pub more : List Group
   pub grew : new.log ≡ old.log ++ more
   pub last : ℕ
   pub climbs : Climbs (λ groups image. HasGroups image groups) was from last old.log more
   pub no_later : last ≤ now
-  pub since_last : (image : List ℕ) → was last image → HasGroups image new.log ⊎ (FailedSecond failed last has × HasNext new image)
+  pub since_last : (failed → ⊥) → (image : List ℕ) → was last image → HasGroups image new.log
+  pub failing : failed → ((image : List ℕ) → was last image → HasGroups image new.log) ⊎ IsSealed new last was has
 
 -- the same where the bytes are told
 abbrev pub ClimbsFrom : Option (List ℕ) → (ℕ → List ℕ → Type 0) → (ℕ → Type 0) → ℕ → ℕ → Desk → Desk → Type 0 → Type 0
 ClimbsFrom bytes was has from now old new failed = IfSome bytes (λ _. HasClimbed was has from now old new failed)
-
--- what each image has that a crash leaves now
-abbrev pub Now : Option (List ℕ) → (List ℕ → Type 0) → Desk → Type 0 → Type 0
-Now bytes is_image desk failed = IfSome bytes (λ _. (image : List ℕ) → is_image image → HasGroups image desk.log ⊎ (failed × HasNext desk image))

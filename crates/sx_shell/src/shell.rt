@@ -8,7 +8,7 @@ ghost use Rattle.sx_layout.specs.Stands.{Stands};
 ghost use Rattle.sx_log.specs.Reading.{Explains};
 ghost use Rattle.sx_model.specs.Commit.{Commit};
 ghost use Rattle.sx_run.specs.Run.{Course, Step, started};
-ghost use Rattle.sx_shell.specs.Crash.{ClimbsFrom, During, FailedSecond, GrowsByOne, IsSafe, IsUnopened, Now};
+ghost use Rattle.sx_shell.specs.Crash.{ClimbsFrom, During, Failing, GrowsByOne, IsSafe, IsUnopened, Now};
 ghost use Rattle.sx_shell.specs.Ends.{IsAfterOpening, IsInLine};
 ghost use Rattle.sx_shell.specs.Outcome.{CommitFailed, Outcome};
 ghost use Rattle.sx_shell.specs.Progress.{Progress, Ended, Advanced};
@@ -145,8 +145,9 @@ fn advance<V: Volume, S: Source, K: Sink, C: Clock>(
         → Advanced start input before (S.left source.new) (K.written sink.new) (waiting reader.new) desk.new (C.moments clock.new) result }
     ensures kept { result ≢ Some Status.VolumeFault → Keeps (V.bytes volume.new) (V.size volume.new) (V.is_image volume.new) desk.new.log }
     ensures told { result ≢ Some Status.VolumeFault → is_some (V.bytes volume.new) ≡ is_some (V.bytes volume.old) }
-    ensures during { During (V.bytes volume.old) (V.was_image volume.new (V.moment volume.old)) desk.old desk.new (FailedSecond (result ≡ Some Status.VolumeFault) (V.moment volume.old) (V.synced volume.new)) }
-    ensures now { Now (V.bytes volume.old) (V.is_image volume.new) desk.new (FailedSecond (result ≡ Some Status.VolumeFault) (V.moment volume.old) (V.synced volume.new)) }
+    ensures during { result ≢ Some Status.VolumeFault → During (V.bytes volume.old) (V.was_image volume.new (V.moment volume.old)) desk.old desk.new }
+    ensures now { result ≢ Some Status.VolumeFault → Now (V.bytes volume.old) (V.is_image volume.new) desk.new }
+    ensures failing { result ≡ Some Status.VolumeFault → Failing (V.bytes volume.old) (V.moment volume.old) (V.was_image volume.new) (V.synced volume.new) desk.new }
     ensures time { Elapses (V.moment volume.old) (V.moment volume.new) (V.was_image volume.old) (V.was_image volume.new) (V.synced volume.old) (V.synced volume.new) }
     ensures grows { GrowsByOne desk.old.log desk.new.log (result ≡ Some Status.VolumeFault) }
     ensures after_opening { IfSome result IsAfterOpening }
@@ -184,8 +185,9 @@ fn serve<V: Volume, K: Sink, C: Clock>(
         → IsServed course line.now before (K.written sink.new) (C.moments clock.new) desk.old desk.new result }
     ensures kept { result ≢ Some Status.VolumeFault → Keeps (V.bytes volume.new) (V.size volume.new) (V.is_image volume.new) desk.new.log }
     ensures told { result ≢ Some Status.VolumeFault → is_some (V.bytes volume.new) ≡ is_some (V.bytes volume.old) }
-    ensures during { During (V.bytes volume.old) (V.was_image volume.new (V.moment volume.old)) desk.old desk.new (FailedSecond (result ≡ Some Status.VolumeFault) (V.moment volume.old) (V.synced volume.new)) }
-    ensures now { Now (V.bytes volume.old) (V.is_image volume.new) desk.new (FailedSecond (result ≡ Some Status.VolumeFault) (V.moment volume.old) (V.synced volume.new)) }
+    ensures during { result ≢ Some Status.VolumeFault → During (V.bytes volume.old) (V.was_image volume.new (V.moment volume.old)) desk.old desk.new }
+    ensures now { result ≢ Some Status.VolumeFault → Now (V.bytes volume.old) (V.is_image volume.new) desk.new }
+    ensures failing { result ≡ Some Status.VolumeFault → Failing (V.bytes volume.old) (V.moment volume.old) (V.was_image volume.new) (V.synced volume.new) desk.new }
     ensures time { Elapses (V.moment volume.old) (V.moment volume.new) (V.was_image volume.old) (V.was_image volume.new) (V.synced volume.old) (V.synced volume.new) }
     ensures grows { GrowsByOne desk.old.log desk.new.log (result ≡ Some Status.VolumeFault) }
     ensures in_line { IfSome result IsInLine }

@@ -1,6 +1,6 @@
 -- What the calls of a volume in memory do to its bytes and its images.
-use Rattle.std.proofs.Common.{◌≡◌, ⊎_elim, ℕ, ◌+◌, ◌≤◌, ◌<◌, IsTrue, List, [], ◌∷◌, ◌++◌, length, take, refl, sym, ◌∙◌, ap, subst, arith, length-append, IfSome}
-use Rattle.std.specs.Prelude.{Option, None, Some, map, slice_set}
+use Rattle.std.proofs.Common.{◌≡◌, ⊎_elim, ℕ, ◌+◌, ◌≤◌, ◌<◌, IsTrue, List, [], ◌∷◌, ◌++◌, length, take, sym, ◌∙◌, ap, subst, arith, length-append}
+use Rattle.std.specs.Prelude.{Some, map, slice_set}
 use Rattle.std.proofs.lemmas.List.{length-set, length-take, map-append}
 use Rattle.sx_volume.specs.Change.{AreBytes, Change, Appended, Put, Cut, Synced, Pending, settled, after_change, IsImage}
 use Rattle.sx_volume.specs.Held.{held_piece}

@@ -38,9 +38,9 @@ pub record Syncs (start now : ℕ) (had has : ℕ → Type 0) : Type 0 where
   pub here : has now
   pub no_other : (t : ℕ) → has t → had t ⊎ (t ≡ now)
 
--- A sync has succeeded since that moment.
-abbrev pub HasSynced : ℕ → (ℕ → Type 0) → Type 0
-HasSynced from has = (t : ℕ) × (from < t) × has t
+-- A sync succeeded after this moment, and since then each image is such.
+abbrev pub KeptSince : ℕ → (ℕ → List ℕ → Type 0) → (ℕ → Type 0) → (List ℕ → Type 0) → Type 0
+KeptSince from was has P = (t : ℕ) × (from < t) × has t × ((c : List ℕ) → was t c → P c)
 
 -- Time goes on over a call. For a moment before it, a list passes the second test exactly where it passed it before, or
 -- where it passes it for the call's own start, and a sync had succeeded there exactly where it had before.

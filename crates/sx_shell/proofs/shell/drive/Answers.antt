@@ -2,7 +2,7 @@ use Rattle.std.proofs.Common.{◌≡◌, ◌∙◌, Option, None, Some, refl, ar
 use Rattle.sx_shell.specs.declared.status.Status.{Status}
 use Rattle.sx_shell.specs.declared.status.Status.TheVariants.{OutOfMemory, VolumeFault}
 use Rattle.sx_shell.specs.Waiting.{waiting}
-use Rattle.sx_shell.proofs.Meanwhile.{climbs_none, climbs_then, climbs_weaker}
+use Rattle.sx_shell.proofs.Meanwhile.{climbs_none, climbs_then, climbs_same}
 use Rattle.sx_shell.proofs.Progresses.{begun}
 use Rattle.sx_volume.proofs.Images.{elapses_same, elapses_then}
 use Rattle.sx_shell.proofs.shell.drive.Goals as goal
@@ -30,12 +30,12 @@ returns-in_default-clause-climbs g c =
 
 pub returns-in-Some-advance-clause-climbs : goal.returns-in-Some-advance-clause-climbs
 returns-in-Some-advance-clause-climbs g c =
-    climbs_weaker (g.V.Volume.bytes c.args.volume.now) (g.V.Volume.was_image c.advance.new.volume) (g.V.Volume.synced c.advance.new.volume) (g.V.Volume.moment c.args.volume.now) (g.V.Volume.moment c.advance.new.volume) c.args.desk.now c.advance.new.desk
-    (c.advance.result ≡ Some VolumeFault) (c.in-Some-advance.status ≡ VolumeFault) (λ same. cc (same, c.in-Some-advance.is))
+    climbs_same (g.V.Volume.bytes c.args.volume.now) (g.V.Volume.was_image c.advance.new.volume) (g.V.Volume.synced c.advance.new.volume) (g.V.Volume.moment c.args.volume.now) (g.V.Volume.moment c.advance.new.volume) c.args.desk.now c.advance.new.desk
+    (c.advance.result ≡ Some VolumeFault) (c.in-Some-advance.status ≡ VolumeFault) (λ same. cc (same, c.in-Some-advance.is)) (λ same. cc (same, c.in-Some-advance.is))
     (climbs_then (g.V.Volume.bytes c.args.volume.now) (g.V.Volume.bytes c.loop.volume) (g.V.Volume.moment c.args.volume.now) (g.V.Volume.moment c.loop.volume) (g.V.Volume.moment c.advance.new.volume)
     (g.V.Volume.was_image c.loop.volume) (g.V.Volume.was_image c.advance.new.volume) (g.V.Volume.synced c.loop.volume) (g.V.Volume.synced c.advance.new.volume) (g.V.Volume.is_image c.advance.new.volume)
     c.args.desk.now c.loop.desk c.advance.new.desk (c.advance.result ≡ Some VolumeFault)
-    c.loop.invariant.told c.loop.invariant.climbs c.advance.ensures.time c.advance.ensures.grows c.advance.ensures.during c.advance.ensures.now (g.met.V.Volume.only_now c.advance.new.volume))
+    c.loop.invariant.told c.loop.invariant.climbs c.advance.ensures.time c.advance.ensures.grows c.advance.ensures.during c.advance.ensures.now c.advance.ensures.failing (g.met.V.Volume.only_now c.advance.new.volume))
 
 none_failed : (status : Option Status) → status ≡ None → status ≡ Some VolumeFault → ⊥
 none_failed status none failed = cc (none, failed)
@@ -49,12 +49,12 @@ loop-preserved g c =
       told = c.advance.ensures.told (none_failed c.advance.result none) ∙ c.loop.invariant.told;
       time = elapses_then (g.V.Volume.moment c.args.volume.now) (g.V.Volume.moment c.loop.volume) (g.V.Volume.moment c.advance.new.volume) (g.V.Volume.was_image c.args.volume.now) (g.V.Volume.was_image c.loop.volume) (g.V.Volume.was_image c.advance.new.volume)
           (g.V.Volume.synced c.args.volume.now) (g.V.Volume.synced c.loop.volume) (g.V.Volume.synced c.advance.new.volume) c.loop.invariant.time c.advance.ensures.time;
-      climbs = climbs_weaker (g.V.Volume.bytes c.args.volume.now) (g.V.Volume.was_image c.advance.new.volume) (g.V.Volume.synced c.advance.new.volume) (g.V.Volume.moment c.args.volume.now) (g.V.Volume.moment c.advance.new.volume) c.args.desk.now c.advance.new.desk
-          (c.advance.result ≡ Some VolumeFault) ⊥ (none_failed c.advance.result none)
+      climbs = climbs_same (g.V.Volume.bytes c.args.volume.now) (g.V.Volume.was_image c.advance.new.volume) (g.V.Volume.synced c.advance.new.volume) (g.V.Volume.moment c.args.volume.now) (g.V.Volume.moment c.advance.new.volume) c.args.desk.now c.advance.new.desk
+          (c.advance.result ≡ Some VolumeFault) ⊥ (none_failed c.advance.result none) (λ never. absurd never)
           (climbs_then (g.V.Volume.bytes c.args.volume.now) (g.V.Volume.bytes c.loop.volume) (g.V.Volume.moment c.args.volume.now) (g.V.Volume.moment c.loop.volume) (g.V.Volume.moment c.advance.new.volume)
           (g.V.Volume.was_image c.loop.volume) (g.V.Volume.was_image c.advance.new.volume) (g.V.Volume.synced c.loop.volume) (g.V.Volume.synced c.advance.new.volume) (g.V.Volume.is_image c.advance.new.volume)
           c.args.desk.now c.loop.desk c.advance.new.desk (c.advance.result ≡ Some VolumeFault)
-          c.loop.invariant.told c.loop.invariant.climbs c.advance.ensures.time c.advance.ensures.grows c.advance.ensures.during c.advance.ensures.now (g.met.V.Volume.only_now c.advance.new.volume));
+          c.loop.invariant.told c.loop.invariant.climbs c.advance.ensures.time c.advance.ensures.grows c.advance.ensures.during c.advance.ensures.now c.advance.ensures.failing (g.met.V.Volume.only_now c.advance.new.volume));
       source_faults = omega (arith, c.loop.invariant.source_faults, c.advance.ensures.source_faults);
       sink_faults = omega (arith, c.loop.invariant.sink_faults, c.advance.ensures.sink_faults);
       volume_faults = omega (arith, c.loop.invariant.volume_faults, c.advance.ensures.volume_faults);

@@ -4,7 +4,7 @@ use Rattle.sx_layout.proofs.Legal.{stands_reads}
 use Rattle.sx_run.specs.Lines.{lines_of}
 use Rattle.sx_run.specs.Run.{Course, started}
 use Rattle.sx_shell.proofs.Crashes.{safe_run, safe_none}
-use Rattle.sx_shell.proofs.Outcomes.{at_told, when_told, told_from, started_legal, outcome_legal, refused, not_other, found_damage}
+use Rattle.sx_shell.proofs.Outcomes.{at_told, when_told, told_from, started_legal, outcome_legal, failed_or_not, refused, not_other, found_damage}
 use Rattle.sx_shell.proofs.Standing.{stands_at_end}
 use Rattle.sx_log.specs.Reading.{opened_bytes}
 use Rattle.sx_shell.specs.Outcome.{CommitFailed}
@@ -104,8 +104,9 @@ returns-clause-run g c = λ image input before commits told stands left written.
           (g.V.Volume.moment c.args.volume.now) (g.V.Volume.moment c.open.new.volume) (g.V.Volume.moment c.drive.new.volume)
           (g.V.Volume.is_image c.args.volume.now) (g.V.Volume.is_image c.drive.new.volume) (g.V.Volume.was_image c.open.new.volume) (g.V.Volume.was_image c.drive.new.volume)
           (g.V.Volume.synced c.args.volume.now) (g.V.Volume.synced c.open.new.volume) (g.V.Volume.synced c.drive.new.volume) old new
-          stands synced c.drive.ensures.time (c.in-Ok-new.ensures.same_log ∙ given) ran.6 (λ fault. let in_commit = ran.7 fault in (in_commit.0, (fault, in_commit.1))) end.0 end.1
-          (g.met.V.Volume.counts_now c.drive.new.volume) (when_told _ bytes opened image told told_still c.drive.ensures.climbs)),
+          stands synced c.drive.ensures.time (c.in-Ok-new.ensures.same_log ∙ given) ran.6 end.0 end.1
+          (g.met.V.Volume.counts_now c.drive.new.volume) (when_told _ bytes opened image told told_still c.drive.ensures.climbs)
+          (λ fault. let in_commit = ran.7 fault in (in_commit.0, (fault, in_commit.1))) (failed_or_not c.drive.result)),
     )
 
 pub returns-clause-damaged_exactly : goal.returns-clause-damaged_exactly
