@@ -11,6 +11,7 @@ use Rattle.sx_model.specs.Commit.{Commit, AreLegal, IsLegal, first_time, replay}
 use Rattle.sx_model.specs.Edit.{after}
 use Rattle.sx_model.specs.State.{State, empty_document}
 use Rattle.sx_model.specs.Value.{Value, number}
+use Rattle.sx_outside.specs.Clock.{Ticks}
 use Rattle.sx_run.proofs.Legal.{IsLegalCourse, GoesOn, next_legal}
 use Rattle.sx_run.specs.Run.{Course, current, next_commit}
 use Rattle.sx_shell.proofs.Groups.{groups_from-append, last_time-groups_from, replay-append}
@@ -51,11 +52,13 @@ next_stands desk end clock image shows legal fits has =
     (next_legal end clock legal fits, holds image (groups_of (end.commits ++ next_commit end clock ∷ [])) (subst (λ (list : List Group). HasGroups image list) groups has))
 
 -- a commit of the desk that failed at its second stage is that of the course
-sealed_second : (desk : Desk) (end : Course) (failed : Type 0) (from : ℕ) (was : ℕ → List ℕ → Type 0) (has : ℕ → Type 0) → failed → Shows desk end → IsLegalCourse end → (sealed : IsSealed desk from was has)
+sealed_second : (desk : Desk) (end : Course) (moments : Option (List ℤ)) (failed : Type 0) (from : ℕ) (was : ℕ → List ℕ → Type 0) (has : ℕ → Type 0) → failed → Shows desk end → IsLegalCourse end → end.moments ≡ moments
+    → (sealed : IsSealed desk moments from was has)
     → FailedSecond end sealed.clock failed from was has
-sealed_second desk end failed from was has fails shows legal sealed = record {
+sealed_second desk end moments failed from was has fails shows legal same sealed = record {
   fails = fails;
   fits = sealed.fits;
+  ticks = (sealed.ticks.0, subst (λ (m : Option (List ℤ)). Ticks m sealed.clock sealed.ticks.0) (sym same) sealed.ticks.1);
   kept = (
     sealed.kept.0,
     sealed.kept.1,
@@ -142,10 +145,10 @@ came start end old new more commits shows_old shows_new on grew =
     (ap (λ (list : List Group). list ++ more) (sym shows_old) ∙ sym grew ∙ shows_new ∙ ap (λ (list : List Commit). groups_of list) on ∙ groups_from-split start.commits commits empty_document)
 
 -- The opening came to the success of its sync, and then a script ran.
-module _ (start end : Course) (failed ended : Type 0) (image : List ℕ) (first mid now : ℕ) (before is_image : List ℕ → Type 0) (was is : ℕ → List ℕ → Type 0) (x y z : ℕ → Type 0) (old new : Desk)
+module _ (start end : Course) (failed ended : Type 0) (image : List ℕ) (first mid now : ℕ) (before is_image : List ℕ → Type 0) (was is : ℕ → List ℕ → Type 0) (x y z : ℕ → Type 0) (old new : Desk) (moments : Option (List ℤ))
     (stands : Stands image start.commits) (synced : IsSynced image first mid before was x y) (time : Elapses mid now was is y z)
     (shows_old : old.log ≡ groups_of start.commits) (shows_new : new.log ≡ groups_of end.commits) (legal : IsLegalCourse end) (on : GoesOn start end)
-    (counts_now : (t : ℕ) (c : List ℕ) → t ≤ now → is_image c → is t c) (climbs : HasClimbed is z mid now old new failed) where
+    (counts_now : (t : ℕ) (c : List ℕ) → t ≤ now → is_image c → is t c) (climbs : HasClimbed is z mid now old new moments failed) where
   shown : Climbs (λ groups c. HasGroups c groups) is mid climbs.last (groups_of start.commits) (groups_from (replay start.commits empty_document) on.0)
   shown =
       subst (λ (groups : List Group). Climbs (λ list c. HasGroups c list) is mid climbs.last groups (groups_from (replay start.commits empty_document) on.0)) shows_old
@@ -191,13 +194,13 @@ module _ (start end : Course) (failed ended : Type 0) (image : List ℕ) (first 
   all_stand : (c : List ℕ) → HasGroups c new.log → Stands c end.commits
   all_stand c has = (legal.commits, holds c (groups_of end.commits) (subst (λ (list : List Group). HasGroups c list) shows_new has))
 
-  pub safe_run : (failed → Shows new end × ended) → failed ⊎ (failed → ⊥) → IsSafe start end ended first now before is_image is x z
+  pub safe_run : (failed → Shows new end × ended × (end.moments ≡ moments)) → failed ⊎ (failed → ⊥) → IsSafe start end ended first now before is_image is x z
   safe_run shows (inr fine) = safe_with first_time (λ c left. inl (all_stand c (climbs.since_last fine c left)))
   safe_run shows (inl fault) =
       ⊎_elim (λ (all : (c : List ℕ) → is climbs.last c → HasGroups c new.log). safe_with first_time (λ c left. inl (all_stand c (all c left))))
-      (λ (sealed : IsSealed new climbs.last is z).
+      (λ (sealed : IsSealed new moments climbs.last is z).
       let how = shows fault in
-      let second = sealed_second new end ended climbs.last is z how.1 how.0 legal sealed in
+      let second = sealed_second new end moments ended climbs.last is z how.1 how.0 legal how.2 sealed in
       safe_with sealed.clock (λ c left.
       ⊎_elim (λ (has : HasGroups c new.log). inl (all_stand c has)) (λ (next : HasNext new sealed.clock c). inr (second, next_stands new end sealed.clock c how.0 legal sealed.fits next))
       (sealed.images c left)))

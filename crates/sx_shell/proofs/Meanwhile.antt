@@ -2,6 +2,7 @@
 use Rattle.std.proofs.Common.{◌≡◌, ◌∙◌, ℕ, ℤ, ◌≤◌, ◌⊎◌, inl, inr, ⊎_elim, List, [], ◌∷◌, ◌++◌, slice_set, Option, None, Some, IfSome, is_some, ap, sym, subst, arith, append_assoc, append-nil, w64, FitsSigned}
 use Rattle.std.proofs.lemmas.Bool.{false≢true}
 use Rattle.sx_layout.specs.Group.{Group, HasGroups, end_of}
+use Rattle.sx_outside.specs.Clock.{Ticks}
 use Rattle.sx_shell.specs.Crash.{Climbs, ClimbsFrom, GrowsByOne, During, Now, Failing, IsSealed, next_group}
 use Rattle.sx_shell.specs.declared.desk.Desk.{Desk}
 use Rattle.sx_volume.specs.Images.{Elapses, KeptSince}
@@ -64,10 +65,10 @@ climbs_more was from last end these (x ∷ more) group le step climbs =
     )
 
 -- before any line
-pub climbs_none : (bytes : Option (List ℕ)) (is_image : List ℕ → Type 0) (was : ℕ → List ℕ → Type 0) (has : ℕ → Type 0) (now : ℕ) (desk : Desk) (failed : Type 0) → ((image : List ℕ) → was now image → is_image image)
-    → IfSome bytes (λ _. (image : List ℕ) → is_image image → HasGroups image desk.log) → ClimbsFrom bytes was has now now desk desk failed
-climbs_none None is_image was has now desk failed only_now have = tt
-climbs_none (Some all) is_image was has now desk failed only_now have = record {
+pub climbs_none : (bytes : Option (List ℕ)) (is_image : List ℕ → Type 0) (was : ℕ → List ℕ → Type 0) (has : ℕ → Type 0) (now : ℕ) (desk : Desk) (moments : Option (List ℤ)) (failed : Type 0) → ((image : List ℕ) → was now image → is_image image)
+    → IfSome bytes (λ _. (image : List ℕ) → is_image image → HasGroups image desk.log) → ClimbsFrom bytes was has now now desk desk moments failed
+climbs_none None is_image was has now desk moments failed only_now have = tt
+climbs_none (Some all) is_image was has now desk moments failed only_now have = record {
   more = [];
   grew = sym (append-nil desk.log);
   last = now;
@@ -78,13 +79,13 @@ climbs_none (Some all) is_image was has now desk failed only_now have = record {
 }
 
 -- and after one more
-pub climbs_then : (bytes told : Option (List ℕ)) (from start end : ℕ) (was is : ℕ → List ℕ → Type 0) (had has : ℕ → Type 0) (is_image : List ℕ → Type 0) (old desk new : Desk) (failed : Type 0)
-    → is_some told ≡ is_some bytes → ClimbsFrom bytes was had from start old desk ⊥ → Elapses start end was is had has → GrowsByOne desk.log new.log failed
-    → ((failed → ⊥) → During told (is start) desk new) → ((failed → ⊥) → Now told is_image new) → (failed → Failing told start is has new) → ((image : List ℕ) → is end image → is_image image)
-    → ClimbsFrom bytes is has from end old new failed
-climbs_then None told from start end was is had has is_image old desk new failed same climbs time grows during now failing only_now = tt
-climbs_then (Some all) None from start end was is had has is_image old desk new failed same climbs time grows during now failing only_now = absurd (false≢true same)
-climbs_then (Some all) (Some also) from start end was is had has is_image old desk new failed same climbs time (inl none) during now failing only_now = record {
+pub climbs_then : (bytes told : Option (List ℕ)) (from start end : ℕ) (was is : ℕ → List ℕ → Type 0) (had has : ℕ → Type 0) (is_image : List ℕ → Type 0) (old desk new : Desk) (earlier moments : Option (List ℤ)) (failed : Type 0)
+    → is_some told ≡ is_some bytes → ClimbsFrom bytes was had from start old desk earlier ⊥ → Elapses start end was is had has → GrowsByOne desk.log new.log failed
+    → ((failed → ⊥) → During told (is start) desk new) → ((failed → ⊥) → Now told is_image new) → (failed → Failing told start is has new moments) → ((image : List ℕ) → is end image → is_image image)
+    → ClimbsFrom bytes is has from end old new moments failed
+climbs_then None told from start end was is had has is_image old desk new earlier moments failed same climbs time grows during now failing only_now = tt
+climbs_then (Some all) None from start end was is had has is_image old desk new earlier moments failed same climbs time grows during now failing only_now = absurd (false≢true same)
+climbs_then (Some all) (Some also) from start end was is had has is_image old desk new earlier moments failed same climbs time (inl none) during now failing only_now = record {
   more = climbs.more;
   grew = none ∙ climbs.grew;
   last = climbs.last;
@@ -98,12 +99,13 @@ climbs_then (Some all) (Some also) from start end was is had has is_image old de
       ⊎_elim
       (λ (first : (image : List ℕ) → is start image → HasGroups image new.log).
       inl (λ image left. ⊎_elim (before image) (first image) (time.nothing_else climbs.last image climbs.no_later left)))
-      (λ (second : IsSealed new start is has).
+      (λ (second : IsSealed new moments start is has).
       inr (record {
         clock = second.clock;
         fits = second.fits;
+        ticks = second.ticks;
         kept = (second.kept.0, omega (arith, climbs.no_later, second.kept.1), second.kept.2, second.kept.3);
-        images = λ image left. ⊎_elim (λ (earlier : was climbs.last image). inl (before image earlier)) (second.images image) (time.nothing_else climbs.last image climbs.no_later left);
+        images = λ image left. ⊎_elim (λ (first : was climbs.last image). inl (before image first)) (second.images image) (time.nothing_else climbs.last image climbs.no_later left);
       }))
       (failing fault);
 }
@@ -113,7 +115,7 @@ climbs_then (Some all) (Some also) from start end was is had has is_image old de
 
     before : (image : List ℕ) → was climbs.last image → HasGroups image new.log
     before image earlier = on image (climbs.since_last (λ never. never) image earlier)
-climbs_then (Some all) (Some also) from start end was is had has is_image old desk new failed same climbs time (inr one) during now failing only_now =
+climbs_then (Some all) (Some also) from start end was is had has is_image old desk new earlier moments failed same climbs time (inr one) during now failing only_now =
     let whole : new.log ≡ (old.log ++ climbs.more) ++ one.1 ∷ [] = one.2 ∙ ap (λ (groups : List Group). groups ++ one.1 ∷ []) climbs.grew in record {
       more = climbs.more ++ one.1 ∷ [];
       grew = whole ∙ append_assoc old.log climbs.more (one.1 ∷ []);
@@ -121,7 +123,7 @@ climbs_then (Some all) (Some also) from start end was is had has is_image old de
       climbs = climbs_more is from climbs.last end old.log climbs.more one.1 (omega (arith, climbs.no_later, time.later))
           (λ image left.
           ⊎_elim
-          (λ (earlier : was climbs.last image). inl (subst (λ (groups : List Group). Has groups image) climbs.grew (climbs.since_last (λ never. never) image earlier)))
+          (λ (first : was climbs.last image). inl (subst (λ (groups : List Group). Has groups image) climbs.grew (climbs.since_last (λ never. never) image first)))
           (λ (here : is start image).
           ⊎_elim (λ (before : HasGroups image desk.log). inl (subst (λ (groups : List Group). Has groups image) climbs.grew before))
           (λ (after : HasGroups image new.log). inr (inl (subst (λ (groups : List Group). Has groups image) whole after))) (during one.0 image here))
@@ -132,32 +134,35 @@ climbs_then (Some all) (Some also) from start end was is had has is_image old de
       failing = λ fault. absurd (one.0 fault);
     }
 
-pub climbs_same : (bytes : Option (List ℕ)) (was : ℕ → List ℕ → Type 0) (has : ℕ → Type 0) (from now : ℕ) (old new : Desk) (failed ended : Type 0) → (failed → ended) → (ended → failed)
-    → ClimbsFrom bytes was has from now old new failed → ClimbsFrom bytes was has from now old new ended
-climbs_same None was has from now old new failed ended to back climbs = tt
-climbs_same (Some all) was has from now old new failed ended to back climbs = record {
+pub climbs_same : (bytes : Option (List ℕ)) (was : ℕ → List ℕ → Type 0) (has : ℕ → Type 0) (from now : ℕ) (old new : Desk) (earlier moments : Option (List ℤ)) (failed ended : Type 0)
+    → (failed → ended) → (ended → failed × (earlier ≡ moments)) → ClimbsFrom bytes was has from now old new earlier failed → ClimbsFrom bytes was has from now old new moments ended
+climbs_same None was has from now old new earlier moments failed ended to back climbs = tt
+climbs_same (Some all) was has from now old new earlier moments failed ended to back climbs = record {
   more = climbs.more;
   grew = climbs.grew;
   last = climbs.last;
   climbs = climbs.climbs;
   no_later = climbs.no_later;
   since_last = λ fine. climbs.since_last (λ fault. fine (to fault));
-  failing = λ fault. climbs.failing (back fault);
+  failing = λ fault.
+      let same = back fault in
+      subst (λ (m : Option (List ℤ)). ((image : List ℕ) → was climbs.last image → HasGroups image new.log) ⊎ IsSealed new m climbs.last was has) same.1 (climbs.failing same.0);
 }
 
 -- A commit failed, at its first stage or at its second one.
-pub commit_failing : (bytes : Option (List ℕ)) (from : ℕ) (was : ℕ → List ℕ → Type 0) (has : ℕ → Type 0) (desk : Desk) (log : List Group) (clock : ℤ) (group : Group) (stage : ℕ)
-    → desk.log ≡ log → FitsSigned w64 clock → group ≡ next_group desk clock → (stage ≡ 1) ⊎ (stage ≡ 2)
+pub commit_failing : (bytes : Option (List ℕ)) (from : ℕ) (was : ℕ → List ℕ → Type 0) (has : ℕ → Type 0) (desk : Desk) (log : List Group) (moments after : Option (List ℤ)) (clock : ℤ) (group : Group) (stage : ℕ)
+    → desk.log ≡ log → FitsSigned w64 clock → Ticks moments clock after → group ≡ next_group desk clock → (stage ≡ 1) ⊎ (stage ≡ 2)
     → (stage ≡ 1 → IfSome bytes (λ _. (image : List ℕ) → was from image → HasGroups image log))
     → (stage ≡ 2 → IfSome bytes (λ _. KeptSince from was has (λ image. HasGroups (slice_set image (end_of log) 1) (log ++ group ∷ []))))
     → IfSome bytes (λ _. (image : List ℕ) → was from image → HasGroups image log ⊎ HasGroups image (log ++ group ∷ []))
-    → Failing bytes from was has desk
-commit_failing None from was has desk log clock group stage same fits is stages first second during = tt
-commit_failing (Some all) from was has desk log clock group stage same fits is (inl one) first second during =
+    → Failing bytes from was has desk moments
+commit_failing None from was has desk log moments after clock group stage same fits ticks is stages first second during = tt
+commit_failing (Some all) from was has desk log moments after clock group stage same fits ticks is (inl one) first second during =
     inl (subst (λ (groups : List Group). (image : List ℕ) → was from image → HasGroups image groups) (sym same) (first one))
-commit_failing (Some all) from was has desk log clock group stage same fits is (inr two) first second during = inr (record {
+commit_failing (Some all) from was has desk log moments after clock group stage same fits ticks is (inr two) first second during = inr (record {
   clock = clock;
   fits = fits;
+  ticks = (after, ticks);
   kept = subst (λ (g : Group). KeptSince from was has (λ image. HasGroups (slice_set image (end_of desk.log) 1) (desk.log ++ g ∷ []))) is
       (subst (λ (groups : List Group). KeptSince from was has (λ image. HasGroups (slice_set image (end_of groups) 1) (groups ++ group ∷ []))) (sym same) (second two));
   images = subst (λ (g : Group). (image : List ℕ) → was from image → HasGroups image desk.log ⊎ HasGroups image (desk.log ++ g ∷ [])) is

@@ -73,9 +73,9 @@ begun start input before left written waiting desk moments is_left is_written no
 }
 
 -- memory runs out before anything was read
-pub none_begun : (start : Course) (input before : List ℕ) (left written : Option (List ℕ)) (desk : Desk)
-    → left ≡ Some input → written ≡ Some before → Shows desk start → Ended start input before left written desk OutOfMemory
-none_begun start input before left written desk is_left is_written shows =
+pub none_begun : (start : Course) (input before : List ℕ) (left written : Option (List ℕ)) (desk : Desk) (moments : Option (List ℤ))
+    → left ≡ Some input → written ≡ Some before → Shows desk start → Ended start input before left written desk moments OutOfMemory
+none_begun start input before left written desk moments is_left is_written shows =
     (input, [], start, is_left, is_written ∙ ap (λ (b : List ℕ). Some b) (sym (append-nil before)), ([], lines_of input, refl, (refl, refl)), shows.groups, λ fault. absurd (cc fault))
 
 same_shows : (old new : Desk) (course : Course) → new ≡ old → Shows old course → Shows new course
@@ -85,11 +85,11 @@ same_log : (old new : Desk) (course : Course) → new ≡ old → Shows old cour
 same_log old new course is shows = (same_shows old new course is shows).groups
 
 -- A line ended the run.
-line_ended : (start : Course) (input before : List ℕ) (left written : Option (List ℕ)) (old desk : Desk) (moments : Option (List ℤ))
+line_ended : (start : Course) (input before : List ℕ) (left written : Option (List ℕ)) (old desk : Desk) (past moments : Option (List ℤ))
     (rest out : List ℕ) (course : Course) (ended : List (List ℕ)) (line front : List ℕ) (more : List (List ℕ))
-    → left ≡ Some rest → lines_of input ≡ ended ++ line ∷ more → Run start ended out course → Shows old course → front ≡ kept line
-    → (status : Status) → IsServed course front (before ++ out) written moments old desk (Some status) → Ended start input before left written desk status
-line_ended start input before left written old desk moments rest out course ended line front more is_left lines ran shows is WriteFault served = (
+    → left ≡ Some rest → lines_of input ≡ ended ++ line ∷ more → Run start ended out course → Shows old course → course.moments ≡ past → front ≡ kept line
+    → (status : Status) → IsServed course front (before ++ out) written moments old desk (Some status) → Ended start input before left written desk past status
+line_ended start input before left written old desk past moments rest out course ended line front more is_left lines ran shows now is WriteFault served = (
   rest,
   out ++ served.1,
   served.0,
@@ -99,14 +99,14 @@ line_ended start input before left written old desk moments rest out course ende
   served.5,
   λ fault. absurd (cc fault),
 )
-line_ended start input before left written old desk moments rest out course ended line front more is_left lines ran shows is VolumeFault served =
-    (rest, out, course, is_left, served.0, inr (ended, line, more, lines, said line front (command commit) is served.1, ran), same_log old desk course served.2 shows, λ fault. (same_shows old desk course served.2 shows, (ended, line, more, lines, said line front (command commit) is served.1, ran)))
-line_ended start input before left written old desk moments rest out course ended line front more is_left lines ran shows is OutOfMemory served =
+line_ended start input before left written old desk past moments rest out course ended line front more is_left lines ran shows now is VolumeFault served =
+    (rest, out, course, is_left, served.0, inr (ended, line, more, lines, said line front (command commit) is served.1, ran), same_log old desk course served.2 shows, λ fault. (same_shows old desk course served.2 shows, (ended, line, more, lines, said line front (command commit) is served.1, ran), now))
+line_ended start input before left written old desk past moments rest out course ended line front more is_left lines ran shows now is OutOfMemory served =
     (rest, out, course, is_left, served.0, (ended, line ∷ more, lines, ran), same_log old desk course served.1 shows, λ fault. absurd (cc fault))
-line_ended start input before left written old desk moments rest out course ended line front more is_left lines ran shows is Done served = absurd served
-line_ended start input before left written old desk moments rest out course ended line front more is_left lines ran shows is Usage served = absurd served
-line_ended start input before left written old desk moments rest out course ended line front more is_left lines ran shows is ReadFault served = absurd served
-line_ended start input before left written old desk moments rest out course ended line front more is_left lines ran shows is (Damaged damage) served = absurd served
+line_ended start input before left written old desk past moments rest out course ended line front more is_left lines ran shows now is Done served = absurd served
+line_ended start input before left written old desk past moments rest out course ended line front more is_left lines ran shows now is Usage served = absurd served
+line_ended start input before left written old desk past moments rest out course ended line front more is_left lines ran shows now is ReadFault served = absurd served
+line_ended start input before left written old desk past moments rest out course ended line front more is_left lines ran shows now is (Damaged damage) served = absurd served
 
 -- a line ends in the bytes that were taken
 module _ (start : Course) (input before : List ℕ) (left written : Option (List ℕ)) (waiting : Waiting) (desk : Desk) (moments : Option (List ℤ))
@@ -128,7 +128,7 @@ module _ (start : Course) (input before : List ℕ) (left written : Option (List
   pub line_run : (written_now : Option (List ℕ)) (new : Waiting) (desk_now : Desk) (moments_now : Option (List ℤ)) (line : List ℕ)
       → Ends waiting (waiting.rest ++ piece) line new → (status : Option Status)
       → IsServed p.course line (before ++ p.out) written_now moments_now desk desk_now status
-      → Advanced start input before now written_now new desk_now moments_now status
+      → Advanced start input before now written_now new desk_now moments moments_now status
   line_run written_now new desk_now moments_now line ends None served =
       let whole : List ℕ = p.partial ++ ends.part in
       let is : line ≡ kept whole = ends.whole ∙ ap (λ (l : List ℕ). kept (l ++ ends.part)) p.line_is ∙ take-kept 1025 p.partial ends.part in
@@ -170,8 +170,8 @@ module _ (start : Course) (input before : List ℕ) (left written : Option (List
       ap (λ (b : List ℕ). lines_of b) all
       ∙ lines_of-fed p.ended (whole ++ 10 ∷ (new.rest ++ rest)) p.no_feeds
       ∙ ap (λ (ls : List (List ℕ)). p.ended ++ ls) (lines_of-line whole (new.rest ++ rest) none) in
-      line_ended start input before now written_now desk desk_now moments_now rest p.out p.course p.ended whole line (lines_of (new.rest ++ rest))
-      left_now lines p.ran p.shows is status served
+      line_ended start input before now written_now desk desk_now moments moments_now rest p.out p.course p.ended whole line (lines_of (new.rest ++ rest))
+      left_now lines p.ran p.shows p.moments_are is status served
 
   -- no line ends in them
   pub none_ended : (new : Waiting) → GoesOn waiting (waiting.rest ++ piece) new → Progress start input before now written new desk moments
@@ -196,7 +196,7 @@ module _ (start : Course) (input before : List ℕ) (left written : Option (List
   }
 
   -- memory runs out in reading
-  pub read_stopped : Ended start input before now written desk OutOfMemory
+  pub read_stopped : Ended start input before now written desk moments OutOfMemory
   read_stopped =
       let all : input ≡ fed p.ended ++ ((p.partial ++ waiting.rest) ++ p.rest) =
       p.input_is ∙ ap (λ (b : List ℕ). b ++ p.rest) p.taken_is ∙ append_assoc (fed p.ended) (p.partial ++ waiting.rest) p.rest in (
@@ -216,7 +216,7 @@ module _ (start : Course) (input before : List ℕ) (left written : Option (List
       )
 
   -- the source failed, when all that was taken was cut
-  pub read_failed : waiting.rest ≡ [] → piece ≡ [] → Ended start input before now written desk ReadFault
+  pub read_failed : waiting.rest ≡ [] → piece ≡ [] → Ended start input before now written desk moments ReadFault
   read_failed spent nothing =
       let text : p.taken ++ piece ≡ fed p.ended ++ p.partial =
       taken_now ∙ ap (λ (b : List ℕ). fed p.ended ++ (p.partial ++ (b ++ piece))) spent
@@ -244,7 +244,7 @@ module _ (start : Course) (input before : List ℕ) (left written : Option (List
       ∙ ap (λ (b : List ℕ). fed p.ended ++ b) (append-nil p.partial)
 
   -- nothing is left
-  pub all_done : waiting.rest ≡ [] → piece ≡ [] → IsAtEnd left now → waiting.line ≡ [] → Ended start input before now written desk Done
+  pub all_done : waiting.rest ≡ [] → piece ≡ [] → IsAtEnd left now → waiting.line ≡ [] → Ended start input before now written desk moments Done
   all_done spent nothing end no_line =
       let none_partial : p.partial ≡ [] = nothing_kept p.partial (sym p.line_is ∙ no_line) in
       let lines : lines_of input ≡ p.ended =
@@ -274,7 +274,7 @@ module _ (start : Course) (input before : List ℕ) (left written : Option (List
   pub last_run : (written_now : Option (List ℕ)) (desk_now : Desk) (moments_now : Option (List ℤ)) (line : List ℕ)
       → waiting.rest ≡ [] → piece ≡ [] → IsAtEnd left now → line ≡ waiting.line → 0 < length line
       → IsServed p.course line (before ++ p.out) written_now moments_now desk desk_now None
-      → Ended start input before now written_now desk_now Done
+      → Ended start input before now written_now desk_now moments Done
   last_run written_now desk_now moments_now line spent nothing end is some served =
       let lines = last_lines line spent nothing end is some in
       let step = stepped p.course served.0 p.partial line served.1 (is ∙ p.line_is) served.2 in
@@ -295,7 +295,7 @@ module _ (start : Course) (input before : List ℕ) (left written : Option (List
   pub last_stopped : (written_now : Option (List ℕ)) (desk_now : Desk) (moments_now : Option (List ℤ)) (line : List ℕ)
       → waiting.rest ≡ [] → piece ≡ [] → IsAtEnd left now → line ≡ waiting.line → 0 < length line → (status : Status)
       → IsServed p.course line (before ++ p.out) written_now moments_now desk desk_now (Some status)
-      → Ended start input before now written_now desk_now status
+      → Ended start input before now written_now desk_now moments status
   last_stopped written_now desk_now moments_now line spent nothing end is some status served =
-      line_ended start input before now written_now desk desk_now moments_now (moved left now p.rest piece p.left_is move).0 p.out p.course p.ended p.partial line []
-      left_now (last_lines line spent nothing end is some) p.ran p.shows (is ∙ p.line_is) status served
+      line_ended start input before now written_now desk desk_now moments moments_now (moved left now p.rest piece p.left_is move).0 p.out p.course p.ended p.partial line []
+      left_now (last_lines line spent nothing end is some) p.ran p.shows p.moments_are (is ∙ p.line_is) status served

@@ -6,6 +6,7 @@ use Rattle.sx_layout.specs.Group.{Group, HasGroups, end_of, last_time}
 use Rattle.sx_layout.specs.Stands.{Stands, body_of, groups_of}
 use Rattle.sx_model.specs.Commit.{Commit, first_time}
 use Rattle.sx_model.specs.Value.{number}
+use Rattle.sx_outside.specs.Clock.{Ticks}
 use Rattle.sx_run.specs.Run.{Course, next_commit}
 use Rattle.sx_shell.specs.declared.desk.Desk.{Desk}
 use Rattle.sx_shell.specs.declared.status.Status.{Status}
@@ -25,6 +26,7 @@ StandsWithNext end clock image = Stands image (end.commits ++ next_commit end cl
 pub record FailedSecond (end : Course) (clock : ℤ) (failed : Type 0) (from : ℕ) (was : ℕ → List ℕ → Type 0) (has : ℕ → Type 0) : Type 0 where
   pub fails : failed
   pub fits : FitsSigned w64 clock
+  pub ticks : (after : Option (List ℤ)) × Ticks end.moments clock after
   pub kept : KeptSince from was has (λ image. StandsWithNext end clock (slice_set image (end_of (groups_of end.commits)) 1))
 
 -- The image stands for all commits of the run, or, where a commit failed at its second stage, for these with that one.
@@ -102,15 +104,16 @@ Now bytes is_image desk = IfSome bytes (λ _. (image : List ℕ) → is_image im
 
 -- A commit of the desk failed at its second stage: since its group was kept behind the closed gate, each image has that group once
 -- the gate is opened. Each image has the groups before it, or these with that one.
-pub record IsSealed (desk : Desk) (from : ℕ) (was : ℕ → List ℕ → Type 0) (has : ℕ → Type 0) : Type 0 where
+pub record IsSealed (desk : Desk) (moments : Option (List ℤ)) (from : ℕ) (was : ℕ → List ℕ → Type 0) (has : ℕ → Type 0) : Type 0 where
   pub clock : ℤ
   pub fits : FitsSigned w64 clock
+  pub ticks : (after : Option (List ℤ)) × Ticks moments clock after
   pub kept : KeptSince from was has (λ image. HasNext desk clock (slice_set image (end_of desk.log) 1))
   pub images : (image : List ℕ) → was from image → HasGroups image desk.log ⊎ HasNext desk clock image
 
 -- A commit of the desk failed. At its first stage each image since its start has the groups before it.
-abbrev pub Failing : Option (List ℕ) → ℕ → (ℕ → List ℕ → Type 0) → (ℕ → Type 0) → Desk → Type 0
-Failing bytes from was has desk = IfSome bytes (λ _. ((image : List ℕ) → was from image → HasGroups image desk.log) ⊎ IsSealed desk from was has)
+abbrev pub Failing : Option (List ℕ) → ℕ → (ℕ → List ℕ → Type 0) → (ℕ → Type 0) → Desk → Option (List ℤ) → Type 0
+Failing bytes from was has desk moments = IfSome bytes (λ _. ((image : List ℕ) → was from image → HasGroups image desk.log) ⊎ IsSealed desk moments from was has)
 
 -- the groups are the old ones, or, where nothing failed, these and one more
 abbrev pub GrowsByOne : List Group → List Group → Type 0 → Type 0
@@ -118,15 +121,15 @@ GrowsByOne old new failed = (new ≡ old) ⊎ ((failed → ⊥) × (group : Grou
 
 -- The groups come one after another, from those of the old desk to those of the new one. Since the last one had come, an image has
 -- them all, unless a commit failed.
-pub record HasClimbed (was : ℕ → List ℕ → Type 0) (has : ℕ → Type 0) (from now : ℕ) (old new : Desk) (failed : Type 0) : Type 0 where
+pub record HasClimbed (was : ℕ → List ℕ → Type 0) (has : ℕ → Type 0) (from now : ℕ) (old new : Desk) (moments : Option (List ℤ)) (failed : Type 0) : Type 0 where
   pub more : List Group
   pub grew : new.log ≡ old.log ++ more
   pub last : ℕ
   pub climbs : Climbs (λ groups image. HasGroups image groups) was from last old.log more
   pub no_later : last ≤ now
   pub since_last : (failed → ⊥) → (image : List ℕ) → was last image → HasGroups image new.log
-  pub failing : failed → ((image : List ℕ) → was last image → HasGroups image new.log) ⊎ IsSealed new last was has
+  pub failing : failed → ((image : List ℕ) → was last image → HasGroups image new.log) ⊎ IsSealed new moments last was has
 
 -- the same where the bytes are told
-abbrev pub ClimbsFrom : Option (List ℕ) → (ℕ → List ℕ → Type 0) → (ℕ → Type 0) → ℕ → ℕ → Desk → Desk → Type 0 → Type 0
-ClimbsFrom bytes was has from now old new failed = IfSome bytes (λ _. HasClimbed was has from now old new failed)
+abbrev pub ClimbsFrom : Option (List ℕ) → (ℕ → List ℕ → Type 0) → (ℕ → Type 0) → ℕ → ℕ → Desk → Desk → Option (List ℤ) → Type 0 → Type 0
+ClimbsFrom bytes was has from now old new moments failed = IfSome bytes (λ _. HasClimbed was has from now old new moments failed)

@@ -29,13 +29,13 @@ pub record Progress (start : Course) (input before : List ℕ) (left written : O
   pub shows : Shows desk course
   pub moments_are : course.moments ≡ moments
 
--- the run ended with this status
-abbrev pub Ended : Course → List ℕ → List ℕ → Option (List ℕ) → Option (List ℕ) → Desk → Status → Type 0
-Ended start input before left written desk status =
+-- The run ended with this status. Before the line that ended it the clock had these moments to come.
+abbrev pub Ended : Course → List ℕ → List ℕ → Option (List ℕ) → Option (List ℕ) → Desk → Option (List ℤ) → Status → Type 0
+Ended start input before left written desk moments status =
     (rest : List ℕ) × (out : List ℕ) × (end : Course) × (left ≡ Some rest) × (written ≡ Some (before ++ out)) × Outcome start input rest status out end
-    × (desk.log ≡ groups_of end.commits) × (status ≡ VolumeFault → Shows desk end × CommitFailed start input out end)
+    × (desk.log ≡ groups_of end.commits) × (status ≡ VolumeFault → Shows desk end × CommitFailed start input out end × (end.moments ≡ moments))
 
 -- the run went on, or ended
-abbrev pub Advanced : Course → List ℕ → List ℕ → Option (List ℕ) → Option (List ℕ) → Waiting → Desk → Option (List ℤ) → Option Status → Type 0
-Advanced start input before left written waiting desk moments None = Progress start input before left written waiting desk moments
-Advanced start input before left written waiting desk moments (Some status) = Ended start input before left written desk status
+abbrev pub Advanced : Course → List ℕ → List ℕ → Option (List ℕ) → Option (List ℕ) → Waiting → Desk → Option (List ℤ) → Option (List ℤ) → Option Status → Type 0
+Advanced start input before left written waiting desk past moments None = Progress start input before left written waiting desk moments
+Advanced start input before left written waiting desk past moments (Some status) = Ended start input before left written desk past status

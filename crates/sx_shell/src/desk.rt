@@ -91,7 +91,7 @@ impl Desk {
         ensures nothing_done { IsErrOf result Stop.OutOfMemory → (V.bytes volume.new ≡ V.bytes volume.old) × Keeps (V.bytes volume.new) (V.size volume.new) (V.is_image volume.new) self.old.log }
         ensures during { (IsErrOf result Stop.VolumeFailed → ⊥) → During (V.bytes volume.old) (V.was_image volume.new (V.moment volume.old)) self.old self.new }
         ensures now { (IsErrOf result Stop.VolumeFailed → ⊥) → Now (V.bytes volume.old) (V.is_image volume.new) self.new }
-        ensures failing { IsErrOf result Stop.VolumeFailed → Failing (V.bytes volume.old) (V.moment volume.old) (V.was_image volume.new) (V.synced volume.new) self.new }
+        ensures failing { IsErrOf result Stop.VolumeFailed → Failing (V.bytes volume.old) (V.moment volume.old) (V.was_image volume.new) (V.synced volume.new) self.new (C.moments clock.old) }
         ensures time { Elapses (V.moment volume.old) (V.moment volume.new) (V.was_image volume.old) (V.was_image volume.new) (V.synced volume.old) (V.synced volume.new) }
         ensures grows { GrowsByOne self.old.log self.new.log (IsErrOf result Stop.VolumeFailed) }
         ensures in_commit { IsErrOf result Stop.VolumeFailed → Says line.now (command commit) }
@@ -184,7 +184,7 @@ impl Desk {
         ensures nothing_done { IsErrOf result Stop.OutOfMemory → (V.bytes volume.new ≡ V.bytes volume.old) × Keeps (V.bytes volume.new) (V.size volume.new) (V.is_image volume.new) self.old.log }
         ensures during { (IsErrOf result Stop.VolumeFailed → ⊥) → During (V.bytes volume.old) (V.was_image volume.new (V.moment volume.old)) self.old self.new }
         ensures now { (IsErrOf result Stop.VolumeFailed → ⊥) → Now (V.bytes volume.old) (V.is_image volume.new) self.new }
-        ensures failing { IsErrOf result Stop.VolumeFailed → Failing (V.bytes volume.old) (V.moment volume.old) (V.was_image volume.new) (V.synced volume.new) self.new }
+        ensures failing { IsErrOf result Stop.VolumeFailed → Failing (V.bytes volume.old) (V.moment volume.old) (V.was_image volume.new) (V.synced volume.new) self.new (C.moments clock.old) }
         ensures time { Elapses (V.moment volume.old) (V.moment volume.new) (V.was_image volume.old) (V.was_image volume.new) (V.synced volume.old) (V.synced volume.new) }
         ensures grows { GrowsByOne self.old.log self.new.log (IsErrOf result Stop.VolumeFailed) }
         ensures cause { IsErrOf result Stop.VolumeFailed → Rose (V.faults volume.old) (V.faults volume.new) }

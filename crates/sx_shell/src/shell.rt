@@ -1,4 +1,4 @@
-ghost use Rattle.std.specs.Prelude.{◌≡◌, ◌≢◌, ◌<◌, ◌≤◌, ◌++◌, ◌↔◌, ◌⊎◌, [], List, ℕ, Some, IfSome, IfErr, OnOk, OnErr, IsErrOf, is_some, length, map, slice_get, vec_len, Err};
+ghost use Rattle.std.specs.Prelude.{◌≡◌, ◌≢◌, ◌<◌, ◌≤◌, ◌++◌, ◌↔◌, ◌⊎◌, [], List, ℕ, ℤ, Option, Some, IfSome, IfErr, OnOk, OnErr, IsErrOf, is_some, length, map, slice_get, vec_len, Err};
 ghost use Rattle.std.specs.String.{string_bytes};
 ghost use Rattle.sx_outside.specs.Faults.{Rose};
 ghost use Rattle.sx_log.specs.Keeps.{Keeps};
@@ -103,13 +103,15 @@ fn drive<R: Wait, V: Volume, S: Source, K: Sink, C: Clock>(
     clock: &mut C,
 ) -> Status
     requires kept { Keeps (V.bytes volume.old) (V.size volume.old) (V.is_image volume.old) desk.old.log }
-    ensures run { (start : Course) (input before : List ℕ) → S.left source.old ≡ Some input → K.written sink.old ≡ Some before
-        → Shows desk.old start → start.moments ≡ C.moments clock.old
-        → Ended start input before (S.left source.new) (K.written sink.new) desk.new result }
+    // Before the line that ended the run the clock had these moments to come.
+    ensures ended { (moments : Option (List ℤ))
+        × ((start : Course) (input before : List ℕ) → S.left source.old ≡ Some input → K.written sink.old ≡ Some before
+            → Shows desk.old start → start.moments ≡ C.moments clock.old
+            → Ended start input before (S.left source.new) (K.written sink.new) desk.new moments result)
+        × ClimbsFrom (V.bytes volume.old) (V.was_image volume.new) (V.synced volume.new) (V.moment volume.old) (V.moment volume.new) desk.old desk.new moments (result ≡ Status.VolumeFault) }
     ensures kept { result ≢ Status.VolumeFault → Keeps (V.bytes volume.new) (V.size volume.new) (V.is_image volume.new) desk.new.log }
     ensures told { result ≢ Status.VolumeFault → is_some (V.bytes volume.new) ≡ is_some (V.bytes volume.old) }
     ensures time { Elapses (V.moment volume.old) (V.moment volume.new) (V.was_image volume.old) (V.was_image volume.new) (V.synced volume.old) (V.synced volume.new) }
-    ensures climbs { ClimbsFrom (V.bytes volume.old) (V.was_image volume.new) (V.synced volume.new) (V.moment volume.old) (V.moment volume.new) desk.old desk.new (result ≡ Status.VolumeFault) }
     ensures after_opening { IsAfterOpening result }
     ensures read_fault { result ≡ Status.ReadFault → Rose (S.faults source.old) (S.faults source.new) }
     ensures write_fault { result ≡ Status.WriteFault → Rose (K.faults sink.old) (K.faults sink.new) }
@@ -142,12 +144,12 @@ fn advance<V: Volume, S: Source, K: Sink, C: Clock>(
     requires kept { Keeps (V.bytes volume.old) (V.size volume.old) (V.is_image volume.old) desk.old.log }
     ensures run { (start : Course) (input before : List ℕ)
         → Progress start input before (S.left source.old) (K.written sink.old) (waiting reader.old) desk.old (C.moments clock.old)
-        → Advanced start input before (S.left source.new) (K.written sink.new) (waiting reader.new) desk.new (C.moments clock.new) result }
+        → Advanced start input before (S.left source.new) (K.written sink.new) (waiting reader.new) desk.new (C.moments clock.old) (C.moments clock.new) result }
     ensures kept { result ≢ Some Status.VolumeFault → Keeps (V.bytes volume.new) (V.size volume.new) (V.is_image volume.new) desk.new.log }
     ensures told { result ≢ Some Status.VolumeFault → is_some (V.bytes volume.new) ≡ is_some (V.bytes volume.old) }
     ensures during { result ≢ Some Status.VolumeFault → During (V.bytes volume.old) (V.was_image volume.new (V.moment volume.old)) desk.old desk.new }
     ensures now { result ≢ Some Status.VolumeFault → Now (V.bytes volume.old) (V.is_image volume.new) desk.new }
-    ensures failing { result ≡ Some Status.VolumeFault → Failing (V.bytes volume.old) (V.moment volume.old) (V.was_image volume.new) (V.synced volume.new) desk.new }
+    ensures failing { result ≡ Some Status.VolumeFault → Failing (V.bytes volume.old) (V.moment volume.old) (V.was_image volume.new) (V.synced volume.new) desk.new (C.moments clock.old) }
     ensures time { Elapses (V.moment volume.old) (V.moment volume.new) (V.was_image volume.old) (V.was_image volume.new) (V.synced volume.old) (V.synced volume.new) }
     ensures grows { GrowsByOne desk.old.log desk.new.log (result ≡ Some Status.VolumeFault) }
     ensures after_opening { IfSome result IsAfterOpening }
@@ -187,7 +189,7 @@ fn serve<V: Volume, K: Sink, C: Clock>(
     ensures told { result ≢ Some Status.VolumeFault → is_some (V.bytes volume.new) ≡ is_some (V.bytes volume.old) }
     ensures during { result ≢ Some Status.VolumeFault → During (V.bytes volume.old) (V.was_image volume.new (V.moment volume.old)) desk.old desk.new }
     ensures now { result ≢ Some Status.VolumeFault → Now (V.bytes volume.old) (V.is_image volume.new) desk.new }
-    ensures failing { result ≡ Some Status.VolumeFault → Failing (V.bytes volume.old) (V.moment volume.old) (V.was_image volume.new) (V.synced volume.new) desk.new }
+    ensures failing { result ≡ Some Status.VolumeFault → Failing (V.bytes volume.old) (V.moment volume.old) (V.was_image volume.new) (V.synced volume.new) desk.new (C.moments clock.old) }
     ensures time { Elapses (V.moment volume.old) (V.moment volume.new) (V.was_image volume.old) (V.was_image volume.new) (V.synced volume.old) (V.synced volume.new) }
     ensures grows { GrowsByOne desk.old.log desk.new.log (result ≡ Some Status.VolumeFault) }
     ensures in_line { IfSome result IsInLine }

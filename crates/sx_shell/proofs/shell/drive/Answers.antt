@@ -3,7 +3,7 @@ use Rattle.sx_shell.specs.declared.status.Status.{Status}
 use Rattle.sx_shell.specs.declared.status.Status.TheVariants.{OutOfMemory, VolumeFault}
 use Rattle.sx_shell.specs.Waiting.{waiting}
 use Rattle.sx_shell.proofs.Meanwhile.{climbs_none, climbs_then, climbs_same}
-use Rattle.sx_shell.proofs.Progresses.{begun}
+use Rattle.sx_shell.proofs.Progresses.{begun, none_begun}
 use Rattle.sx_volume.proofs.Images.{elapses_same, elapses_then}
 use Rattle.sx_shell.proofs.shell.drive.Goals as goal
 
@@ -16,26 +16,33 @@ loop-init g c = record {
   told = refl;
   time = elapses_same (g.V.Volume.moment c.args.volume.now) (g.V.Volume.was_image c.args.volume.now) (g.V.Volume.synced c.args.volume.now) (g.V.Volume.is_image c.args.volume.now)
       (g.met.V.Volume.counts_now c.args.volume.now) (g.met.V.Volume.only_now c.args.volume.now);
-  climbs = climbs_none (g.V.Volume.bytes c.args.volume.now) (g.V.Volume.is_image c.args.volume.now) (g.V.Volume.was_image c.args.volume.now) (g.V.Volume.synced c.args.volume.now) (g.V.Volume.moment c.args.volume.now) c.args.desk.now ⊥
+  climbs = climbs_none (g.V.Volume.bytes c.args.volume.now) (g.V.Volume.is_image c.args.volume.now) (g.V.Volume.was_image c.args.volume.now) (g.V.Volume.synced c.args.volume.now) (g.V.Volume.moment c.args.volume.now) c.args.desk.now None ⊥
       (g.met.V.Volume.only_now c.args.volume.now) c.requires.kept.images;
   source_faults = omega arith;
   sink_faults = omega arith;
   volume_faults = omega arith;
 }
 
-pub returns-in_default-clause-climbs : goal.returns-in_default-clause-climbs
-returns-in_default-clause-climbs g c =
-    climbs_none (g.V.Volume.bytes c.args.volume.now) (g.V.Volume.is_image c.args.volume.now) (g.V.Volume.was_image c.args.volume.now) (g.V.Volume.synced c.args.volume.now) (g.V.Volume.moment c.args.volume.now) c.args.desk.now (OutOfMemory ≡ VolumeFault)
-    (g.met.V.Volume.only_now c.args.volume.now) c.requires.kept.images
+pub returns-in_default-clause-ended : goal.returns-in_default-clause-ended
+returns-in_default-clause-ended g c = (
+  g.C.Clock.moments c.args.clock.now,
+  λ start input before left written shows same. none_begun start input before (g.S.Source.left c.args.source.now) (g.K.Sink.written c.args.sink.now) c.args.desk.now (g.C.Clock.moments c.args.clock.now) left written shows,
+  climbs_none (g.V.Volume.bytes c.args.volume.now) (g.V.Volume.is_image c.args.volume.now) (g.V.Volume.was_image c.args.volume.now) (g.V.Volume.synced c.args.volume.now) (g.V.Volume.moment c.args.volume.now) c.args.desk.now
+      (g.C.Clock.moments c.args.clock.now) (OutOfMemory ≡ VolumeFault) (g.met.V.Volume.only_now c.args.volume.now) c.requires.kept.images,
+)
 
-pub returns-in-Some-advance-clause-climbs : goal.returns-in-Some-advance-clause-climbs
-returns-in-Some-advance-clause-climbs g c =
-    climbs_same (g.V.Volume.bytes c.args.volume.now) (g.V.Volume.was_image c.advance.new.volume) (g.V.Volume.synced c.advance.new.volume) (g.V.Volume.moment c.args.volume.now) (g.V.Volume.moment c.advance.new.volume) c.args.desk.now c.advance.new.desk
-    (c.advance.result ≡ Some VolumeFault) (c.in-Some-advance.status ≡ VolumeFault) (λ same. cc (same, c.in-Some-advance.is)) (λ same. cc (same, c.in-Some-advance.is))
-    (climbs_then (g.V.Volume.bytes c.args.volume.now) (g.V.Volume.bytes c.loop.volume) (g.V.Volume.moment c.args.volume.now) (g.V.Volume.moment c.loop.volume) (g.V.Volume.moment c.advance.new.volume)
-    (g.V.Volume.was_image c.loop.volume) (g.V.Volume.was_image c.advance.new.volume) (g.V.Volume.synced c.loop.volume) (g.V.Volume.synced c.advance.new.volume) (g.V.Volume.is_image c.advance.new.volume)
-    c.args.desk.now c.loop.desk c.advance.new.desk (c.advance.result ≡ Some VolumeFault)
-    c.loop.invariant.told c.loop.invariant.climbs c.advance.ensures.time c.advance.ensures.grows c.advance.ensures.during c.advance.ensures.now c.advance.ensures.failing (g.met.V.Volume.only_now c.advance.new.volume))
+pub returns-in-Some-advance-clause-ended : goal.returns-in-Some-advance-clause-ended
+returns-in-Some-advance-clause-ended g c =
+    let past = g.C.Clock.moments c.loop.clock in (
+      past,
+      λ start input before left written shows same. c.in-Some-advance.ensures.run start input before (c.loop.invariant.run start input before left written shows same),
+      climbs_same (g.V.Volume.bytes c.args.volume.now) (g.V.Volume.was_image c.advance.new.volume) (g.V.Volume.synced c.advance.new.volume) (g.V.Volume.moment c.args.volume.now) (g.V.Volume.moment c.advance.new.volume) c.args.desk.now c.advance.new.desk
+          past past (c.advance.result ≡ Some VolumeFault) (c.in-Some-advance.status ≡ VolumeFault) (λ same. cc (same, c.in-Some-advance.is)) (λ same. (cc (same, c.in-Some-advance.is), refl))
+          (climbs_then (g.V.Volume.bytes c.args.volume.now) (g.V.Volume.bytes c.loop.volume) (g.V.Volume.moment c.args.volume.now) (g.V.Volume.moment c.loop.volume) (g.V.Volume.moment c.advance.new.volume)
+          (g.V.Volume.was_image c.loop.volume) (g.V.Volume.was_image c.advance.new.volume) (g.V.Volume.synced c.loop.volume) (g.V.Volume.synced c.advance.new.volume) (g.V.Volume.is_image c.advance.new.volume)
+          c.args.desk.now c.loop.desk c.advance.new.desk None past (c.advance.result ≡ Some VolumeFault)
+          c.loop.invariant.told c.loop.invariant.climbs c.advance.ensures.time c.advance.ensures.grows c.advance.ensures.during c.advance.ensures.now c.advance.ensures.failing (g.met.V.Volume.only_now c.advance.new.volume)),
+    )
 
 none_failed : (status : Option Status) → status ≡ None → status ≡ Some VolumeFault → ⊥
 none_failed status none failed = cc (none, failed)
@@ -50,10 +57,10 @@ loop-preserved g c =
       time = elapses_then (g.V.Volume.moment c.args.volume.now) (g.V.Volume.moment c.loop.volume) (g.V.Volume.moment c.advance.new.volume) (g.V.Volume.was_image c.args.volume.now) (g.V.Volume.was_image c.loop.volume) (g.V.Volume.was_image c.advance.new.volume)
           (g.V.Volume.synced c.args.volume.now) (g.V.Volume.synced c.loop.volume) (g.V.Volume.synced c.advance.new.volume) c.loop.invariant.time c.advance.ensures.time;
       climbs = climbs_same (g.V.Volume.bytes c.args.volume.now) (g.V.Volume.was_image c.advance.new.volume) (g.V.Volume.synced c.advance.new.volume) (g.V.Volume.moment c.args.volume.now) (g.V.Volume.moment c.advance.new.volume) c.args.desk.now c.advance.new.desk
-          (c.advance.result ≡ Some VolumeFault) ⊥ (none_failed c.advance.result none) (λ never. absurd never)
+          (g.C.Clock.moments c.loop.clock) None (c.advance.result ≡ Some VolumeFault) ⊥ (none_failed c.advance.result none) (λ never. absurd never)
           (climbs_then (g.V.Volume.bytes c.args.volume.now) (g.V.Volume.bytes c.loop.volume) (g.V.Volume.moment c.args.volume.now) (g.V.Volume.moment c.loop.volume) (g.V.Volume.moment c.advance.new.volume)
           (g.V.Volume.was_image c.loop.volume) (g.V.Volume.was_image c.advance.new.volume) (g.V.Volume.synced c.loop.volume) (g.V.Volume.synced c.advance.new.volume) (g.V.Volume.is_image c.advance.new.volume)
-          c.args.desk.now c.loop.desk c.advance.new.desk (c.advance.result ≡ Some VolumeFault)
+          c.args.desk.now c.loop.desk c.advance.new.desk None (g.C.Clock.moments c.loop.clock) (c.advance.result ≡ Some VolumeFault)
           c.loop.invariant.told c.loop.invariant.climbs c.advance.ensures.time c.advance.ensures.grows c.advance.ensures.during c.advance.ensures.now c.advance.ensures.failing (g.met.V.Volume.only_now c.advance.new.volume));
       source_faults = omega (arith, c.loop.invariant.source_faults, c.advance.ensures.source_faults);
       sink_faults = omega (arith, c.loop.invariant.sink_faults, c.advance.ensures.sink_faults);

@@ -1,4 +1,4 @@
-use Rattle.std.proofs.Common.{◌≡◌, ◌≤◌, List, ℕ, Some, is_some}
+use Rattle.std.proofs.Common.{◌≡◌, ◌≤◌, List, ℕ, None, Some, is_some}
 use Rattle.sx_log.specs.Keeps.{Keeps}
 use Rattle.sx_run.specs.Run.{Course}
 use Rattle.sx_shell.specs.Crash.{ClimbsFrom}
@@ -16,7 +16,7 @@ invariant-loop g l = record {
   kept : Keeps (g.V.Volume.bytes l.volume) (g.V.Volume.size l.volume) (g.V.Volume.is_image l.volume) l.desk.log;
   told : is_some (g.V.Volume.bytes l.volume) ≡ is_some (g.V.Volume.bytes l.fn.volume);
   time : Elapses (g.V.Volume.moment l.fn.volume) (g.V.Volume.moment l.volume) (g.V.Volume.was_image l.fn.volume) (g.V.Volume.was_image l.volume) (g.V.Volume.synced l.fn.volume) (g.V.Volume.synced l.volume);
-  climbs : ClimbsFrom (g.V.Volume.bytes l.fn.volume) (g.V.Volume.was_image l.volume) (g.V.Volume.synced l.volume) (g.V.Volume.moment l.fn.volume) (g.V.Volume.moment l.volume) l.fn.desk l.desk ⊥;
+  climbs : ClimbsFrom (g.V.Volume.bytes l.fn.volume) (g.V.Volume.was_image l.volume) (g.V.Volume.synced l.volume) (g.V.Volume.moment l.fn.volume) (g.V.Volume.moment l.volume) l.fn.desk l.desk None ⊥;
   source_faults : g.S.Source.faults l.fn.source ≤ g.S.Source.faults l.source;
   sink_faults : g.K.Sink.faults l.fn.sink ≤ g.K.Sink.faults l.sink;
   volume_faults : g.V.Volume.faults l.fn.volume ≤ g.V.Volume.faults l.volume;

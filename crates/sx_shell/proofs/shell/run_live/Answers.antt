@@ -89,7 +89,7 @@ returns-clause-run g c = λ image input before commits told stands left written.
     let given : c.in-Ok.log ≡ groups_of commits = at_told _ bytes image told c.in-Ok.ensures.exactly (Ok (groups_of commits)) (stands_reads image commits stands) in
     let synced = at_told _ bytes image told c.in-Ok.ensures.synced in
     let shows = c.in-Ok-new.ensures.shows commits (g.C.Clock.moments c.args.clock.now) given stands.0 in
-    let ran = c.drive.ensures.run start input before left written shows refl in
+    let ran = c.drive.ensures.ended.1 start input before left written shows refl in
     let end = outcome_legal start input ran.0 c.drive.result ran.1 ran.2 ran.5 (started_legal commits (g.C.Clock.moments c.args.clock.now) stands.0) in
     let told_still = told_from opened_bytes bytes opened c.in-Ok.ensures.bytes in (
       ran.0,
@@ -103,10 +103,10 @@ returns-clause-run g c = λ image input before commits told stands left written.
       inl (safe_run start ran.2 (c.drive.result ≡ status.VolumeFault) ((c.drive.result ≡ status.VolumeFault) × CommitFailed start input ran.1 ran.2) image
           (g.V.Volume.moment c.args.volume.now) (g.V.Volume.moment c.open.new.volume) (g.V.Volume.moment c.drive.new.volume)
           (g.V.Volume.is_image c.args.volume.now) (g.V.Volume.is_image c.drive.new.volume) (g.V.Volume.was_image c.open.new.volume) (g.V.Volume.was_image c.drive.new.volume)
-          (g.V.Volume.synced c.args.volume.now) (g.V.Volume.synced c.open.new.volume) (g.V.Volume.synced c.drive.new.volume) old new
+          (g.V.Volume.synced c.args.volume.now) (g.V.Volume.synced c.open.new.volume) (g.V.Volume.synced c.drive.new.volume) old new c.drive.ensures.ended.0
           stands synced c.drive.ensures.time (c.in-Ok-new.ensures.same_log ∙ given) ran.6 end.0 end.1
-          (g.met.V.Volume.counts_now c.drive.new.volume) (when_told _ bytes opened image told told_still c.drive.ensures.climbs)
-          (λ fault. let in_commit = ran.7 fault in (in_commit.0, (fault, in_commit.1))) (failed_or_not c.drive.result)),
+          (g.met.V.Volume.counts_now c.drive.new.volume) (when_told _ bytes opened image told told_still c.drive.ensures.ended.2)
+          (λ fault. let in_commit = ran.7 fault in (in_commit.0, (fault, in_commit.1), in_commit.2)) (failed_or_not c.drive.result)),
     )
 
 pub returns-clause-damaged_exactly : goal.returns-clause-damaged_exactly

@@ -43,5 +43,5 @@ returns-clause-failing g c = λ failed.
     let stage : ℕ = c.in-Err-Failed.field-0-0 in
     let fault : c.in-Err-Failed.field-0 ≡ Failed stage = c.in-Err-Failed.field-0-is in
     let of_stage : (n : ℕ) → stage ≡ n → c.commit.result ≡ Err (Failed n) = λ n which. c.in-Err-Failed.is ∙ ap (λ (f : CommitFault). Err f) (fault ∙ ap (λ (m : ℕ). Failed m) which) in
-    commit_failing (g.V.Volume.bytes c.args.volume.now) (g.V.Volume.moment c.args.volume.now) (g.V.Volume.was_image c.commit.new.volume) (g.V.Volume.synced c.commit.new.volume) new old.log asked.0 group stage
-    same asked.1 is (c.in-Err-Failed.ensures.stage stage fault) (λ one. c.commit.ensures.first_stage (of_stage 1 one)) (λ two. c.commit.ensures.second_stage (of_stage 2 two)) c.commit.ensures.during
+    commit_failing (g.V.Volume.bytes c.args.volume.now) (g.V.Volume.moment c.args.volume.now) (g.V.Volume.was_image c.commit.new.volume) (g.V.Volume.synced c.commit.new.volume) new old.log (g.C.Clock.moments c.args.clock.now) (g.C.Clock.moments c.next_time-time.new.clock) asked.0 group stage
+    same asked.1 asked.2 is (c.in-Err-Failed.ensures.stage stage fault) (λ one. c.commit.ensures.first_stage (of_stage 1 one)) (λ two. c.commit.ensures.second_stage (of_stage 2 two)) c.commit.ensures.during
