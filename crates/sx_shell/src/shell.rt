@@ -106,8 +106,8 @@ fn drive<R: Wait, V: Volume, S: Source, K: Sink, C: Clock>(
     // Before the line that ended the run the clock had these moments to come.
     ensures ended { (moments : Option (List ℤ))
         × ((start : Course) (input before : List ℕ) → S.left source.old ≡ Some input → K.written sink.old ≡ Some before
-            → Shows desk.old start → start.moments ≡ C.moments clock.old
-            → Ended start input before (S.left source.new) (K.written sink.new) desk.new moments result)
+        → Shows desk.old start → start.moments ≡ C.moments clock.old
+        → Ended start input before (S.left source.new) (K.written sink.new) desk.new moments result)
         × ClimbsFrom (V.bytes volume.old) (V.was_image volume.new) (V.synced volume.new) (V.moment volume.old) (V.moment volume.new) desk.old desk.new moments (result ≡ Status.VolumeFault) }
     ensures kept { result ≢ Status.VolumeFault → Keeps (V.bytes volume.new) (V.size volume.new) (V.is_image volume.new) desk.new.log }
     ensures told { result ≢ Status.VolumeFault → is_some (V.bytes volume.new) ≡ is_some (V.bytes volume.old) }
