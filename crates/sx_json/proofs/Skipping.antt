@@ -1,8 +1,8 @@
 -- White space and words, byte by byte.
-use Rattle.std.proofs.Common.{◌≡◌, ℕ, ◌+◌, ◌<◌, List, [], ◌∷◌, ◌++◌, refl, ap, sym, ◌∙◌, subst, length, take, drop, get_or, append_assoc}
+use Rattle.std.proofs.Common.{◌≡◌, ℕ, ◌+◌, ◌<◌, List, [], ◌∷◌, ◌++◌, refl, ap, sym, ◌∙◌, length, take, drop, get_or, append_assoc}
 use Rattle.std.proofs.lemmas.List.{take-append-drop, take_more}
-use Rattle.sx_json.specs.Grammar.{AreBlanks, BeginsOther, IsBlank, IsSolid, Skips}
-use Rattle.sx_json.proofs.StringShapes.{heads, nothing_there}
+use Rattle.sx_json.specs.Grammar.{AreBlanks, BeginsOther, IsBlank, Skips}
+use Rattle.sx_json.proofs.StringShapes.{heads}
 
 AreBlanks-push : (blanks : List ℕ) (b : ℕ) → AreBlanks blanks → IsBlank b → AreBlanks (blanks ++ b ∷ [])
 AreBlanks-push [] b all one = (one, tt)
@@ -14,19 +14,9 @@ skips_none bytes = ([], tt, refl)
 pub skips_more : (bytes rest after : List ℕ) (b : ℕ) → Skips bytes rest → rest ≡ b ∷ after → IsBlank b → Skips bytes after
 skips_more bytes rest after b s is one = (s.0 ++ b ∷ [], AreBlanks-push s.0 b s.1 one, s.2 ∙ ap (λ l. s.0 ++ l) is ∙ sym (append_assoc s.0 (b ∷ []) after))
 
-pub solid_at : (rest after : List ℕ) (b : ℕ) → rest ≡ b ∷ after → (IsBlank b → ⊥) → IsSolid rest
-solid_at rest after b is none byte tail e blank = none (subst IsBlank (heads byte b tail after (sym e ∙ is)).0 blank)
-
-pub solid_nothing : (rest : List ℕ) → rest ≡ [] → IsSolid rest
-solid_nothing rest is byte tail e blank = nothing_there byte tail (sym is ∙ e)
-
 pub same_tail : (word a b : List ℕ) → word ++ a ≡ word ++ b → a ≡ b
 same_tail [] a b e = e
 same_tail (x ∷ xs) a b e = same_tail xs a b (heads x x (xs ++ a) (xs ++ b) e).1
-
-pub word_more : (bytes word rest after : List ℕ) (i : ℕ) → i < length word → bytes ≡ take i word ++ rest → rest ≡ get_or word i 0 ∷ after → bytes ≡ take (i + 1) word ++ after
-word_more bytes word rest after i below is at =
-    is ∙ ap (λ l. take i word ++ l) at ∙ sym (append_assoc (take i word) (get_or word i 0 ∷ []) after) ∙ ap (λ l. l ++ after) (sym (take_more word i 0 below))
 
 pub word_differs : (bytes word rest left : List ℕ) (i : ℕ) → i < length word → bytes ≡ take i word ++ rest → BeginsOther (get_or word i 0) rest → bytes ≡ word ++ left → ⊥
 word_differs bytes word rest left i below is other whole =

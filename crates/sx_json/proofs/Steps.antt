@@ -8,7 +8,7 @@ use Rattle.sx_tree.specs.declared.json.Json.{Json, the_lemmas}
 use Rattle.sx_tree.specs.Names.{AreDistinct, names_of}
 use Rattle.sx_tree.specs.Value.{scalar, array, object, no_fields, value_of, values_of, fields_of}
 use Rattle.sx_json.specs.Reading.{ReadsText}
-use Rattle.sx_json.specs.Frames.{Close, Awaits, AwaitsElements, AwaitsMembers, AwaitsName, Goes, ReadsScalar, Follows, Steps}
+use Rattle.sx_json.specs.Frames.{Close, Awaits, AwaitsElements, AwaitsMembers, AwaitsName, Goes, Follows, Steps}
 use Rattle.sx_json.specs.Grammar.{IsSolid, BeginsOther, Skips}
 use Rattle.sx_json.specs.declared.reader.Frame.{Frame}
 use Rattle.sx_json.specs.declared.reader.Frame.TheVariants.{Array, Member}
@@ -64,12 +64,6 @@ step_object frames bytes after is small v = (to, from)
     from : Follows turn.FirstName frames v after → Follows turn.Value frames v bytes
     from (zero, e, h) = absurd h
     from (suc r, e, h) = (suc r, e, subst (Awaits (reverse frames) (suc r) v) (sym is) ((object_opens (reverse frames) r v after).1 h))
-
-pub step_scalar : (frames : List Frame) (bytes left : List ℕ) (s : Scalar) → ReadsScalar bytes s left → Steps turn.Value frames bytes (turn.After (json.Scalar s)) frames left
-step_scalar frames bytes left s reads v = (
-  λ h. (h.0, h.1, subst (λ x. Close (reverse frames) h.0 x v left) (sym (scalar_is s)) ((reads (reverse frames) h.0 v).0 h.2)),
-  λ h. (h.0, h.1, (reads (reverse frames) h.0 v).1 (subst (λ x. Close (reverse frames) h.0 x v left) (scalar_is s) h.2)),
-)
 
 -- Behind an opening bracket.
 pub step_array_ends : (frames : List Frame) (bytes after : List ℕ) → bytes ≡ 93 ∷ after → length frames < 256 → Steps turn.FirstValue frames bytes (turn.After (json.Array [])) frames after

@@ -16,9 +16,6 @@ use Rattle.sx_json.specs.declared.reader.Turn.{Turn}
 use Rattle.sx_json.specs.declared.reader.Turn.TheVariants as turn
 use Rattle.sx_json.proofs.Steps.{step_blanks, step_trans}
 
-pub steps_none : (text : List ℕ) → Steps turn.Value [] text turn.Value [] text
-steps_none text v = (λ h. h, λ h. h)
-
 pub goes_on : (t next : Turn) (frames new : List Frame) (text rest bytes after : List ℕ) → Steps turn.Value [] text t frames rest → Skips rest bytes → Steps t frames bytes next new after → Steps turn.Value [] text next new after
 goes_on t next frames new text rest bytes after begun skips step =
     step_trans turn.Value t next [] frames new text bytes after (step_trans turn.Value t t [] frames frames text rest bytes begun (step_blanks t frames rest bytes skips)) step

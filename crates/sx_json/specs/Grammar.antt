@@ -87,7 +87,3 @@ abbrev mutual
 -- and objects nested, and no name twice in an object.
 abbrev pub Spells : List ℕ → Value → Type 0
 Spells text v = IsUtf8 text × (after : List ℕ) × Led (λ b. ValueAt v 256 b after) text × AreBlanks after
-
--- The bytes are one string that stands for the content, with no white space around it.
-abbrev pub SpellsString : List ℕ → List ℕ → Type 0
-SpellsString bytes content = IsUtf8 bytes × (inside : List ℕ) × (bytes ≡ 34 ∷ inside) × TextAt inside content []

@@ -3,7 +3,8 @@ use Rattle.std.proofs.Common.{◌≡◌, ◌≢◌, ◌∙◌, ℕ, ℤ, ◌+◌
 use Rattle.std.proofs.Math.Seq.{drop-append-add}
 use Rattle.sx_layout.specs.Damage.{KeepsRules, KeepRules}
 use Rattle.sx_layout.specs.Group.{Group, IsGroup, HasGroups, end_of, group_bytes, opened, last_time, last_next}
-use Rattle.sx_log.proofs.Groups.{length-opened, length-group_bytes, end_of-append, are-append, opened-append}
+use Rattle.sx_layout.proofs.Heads.{length-group_bytes}
+use Rattle.sx_log.proofs.Groups.{length-opened, end_of-append, are-append, opened-append}
 use Rattle.sx_log.specs.Reading.{BeginsWithGroups, FaultExplains, FaultTells}
 use Rattle.sx_log.specs.declared.fault.LogFault.{LogFault}
 use Rattle.sx_log.specs.declared.fault.LogFault.TheVariants.{Failed, Damaged, OutOfMemory}

@@ -8,9 +8,6 @@ use Rattle.std.specs.Option.{option_map}
 use Rattle.sx_log.specs.Written.{with_closed_group, with_group, IsBehind, Commits}
 use Rattle.sx_volume.specs.Images.{Only, Follows, Puts, KeptSince}
 
-pub length-group_bytes : (group : Group) → length (group_bytes group) ≡ 16 + length group.body
-length-group_bytes group = omega arith
-
 pub length-opened : (groups : List Group) → length (opened groups) ≡ end_of groups
 length-opened [] = refl
 length-opened (group ∷ groups) =

@@ -2,16 +2,9 @@
 use Rattle.std.proofs.Common.{◌≡◌, ℕ, suc, ◌+◌, ◌<◌, get_or, take, max, List, [], ◌∷◌, ◌++◌, refl, ap, sym, ◌∙◌, length, map, arith, rules}
 use Rattle.std.proofs.Math.ListN.{length-map}
 use Rattle.std.proofs.lemmas.List.{take_more}
-use Rattle.sx_tree.specs.declared.json.Scalar.{Scalar}
 use Rattle.sx_tree.specs.declared.json.Json as json
 use Rattle.sx_tree.specs.declared.json.Json.{Json, the_lemmas}
-use Rattle.sx_tree.specs.Value.{scalar, array, object, value_of, values_of, fields_of, depth, depth_of_values, depth_of_fields, nodes, nodes_of_values, nodes_of_fields}
-
-pub value_of-Scalar : (s : Scalar) → value_of (json.Scalar s) ≡ scalar s
-value_of-Scalar s = search (rules, the_lemmas)
-
-pub value_of-Array : (items : List Json) → value_of (json.Array items) ≡ array (values_of items)
-value_of-Array items = search (rules, the_lemmas)
+use Rattle.sx_tree.specs.Value.{object, value_of, values_of, fields_of, depth, depth_of_values, depth_of_fields, nodes, nodes_of_values, nodes_of_fields}
 
 pub value_of-Object : (members : List (List ℕ × Json)) → value_of (json.Object members) ≡ object (fields_of members)
 value_of-Object members = search (rules, the_lemmas)

@@ -123,13 +123,3 @@ module _ {R : Type 0} where
   pub Rewinds-pop : (has : ℕ → Bool) (all left : List (ℕ × Option (Option R))) (k : ℕ) (before : Option (Option R)) → all ≡ left ++ (k, before) ∷ [] → Rewinds has (reverse all)
       → (is_some before ≡ true → has k ≡ true) × Rewinds (λ q. cond (eqb q k) (is_some before) (has q)) (reverse left)
   Rewinds-pop has all left k before is h = subst (Rewinds has) (ap reverse is ∙ reverse-push left (k, before)) h
-
-  pub Rewinds-put_back : (has now : ℕ → Bool) (all left : List (ℕ × Option (Option R))) (k : ℕ) (before : Option (Option R)) → all ≡ left ++ (k, before) ∷ [] → Rewinds has (reverse all)
-      → ((q : ℕ) → now q ≡ cond (eqb q k) (is_some before) (has q)) → Rewinds now (reverse left)
-  Rewinds-put_back has now all left k before is h slots =
-      same_slots (λ q. cond (eqb q k) (is_some before) (has q)) now (reverse left) (λ q. sym (slots q)) (Rewinds-pop has all left k before is h).1
-
-  pub rewound-put_back : (m n total : RecordMap R) (all left : List (ℕ × Option (Option R))) (k : ℕ) (before : Option (Option R)) → all ≡ left ++ (k, before) ∷ []
-      → rewound (reverse all) m ≡ total → n ≡ with_slot k (inside before) m → rewound (reverse left) n ≡ total
-  rewound-put_back m n total all left k before is h put =
-      ap (rewound (reverse left)) put ∙ sym (ap (λ (changes : List (ℕ × Option (Option R))). rewound changes m) (ap reverse is ∙ reverse-push left (k, before))) ∙ h

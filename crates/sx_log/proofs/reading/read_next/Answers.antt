@@ -3,7 +3,8 @@ use Rattle.std.proofs.lemmas.Int.{to_z-of_z}
 use Rattle.sx_layout.specs.Group.{Group, end_of, group_bytes, last_time, last_next}
 use Rattle.sx_layout.specs.Damage.{KeepsRules}
 use Rattle.sx_log.proofs.Fronts.{groups_end, damage_explains, begins_with_more}
-use Rattle.sx_log.proofs.Groups.{end_of-append, length-group_bytes}
+use Rattle.sx_layout.proofs.Heads.{length-group_bytes}
+use Rattle.sx_log.proofs.Groups.{end_of-append}
 use Rattle.sx_log.specs.Reading.{BeginsWithGroups, FaultTells}
 use Rattle.sx_log.specs.Row.{shown}
 use Rattle.sx_log.specs.declared.fault.LogFault.{LogFault}

@@ -1,5 +1,5 @@
 use Rattle.std.proofs.Common.{◌+◌, refl, arith}
-use Rattle.sx_log.proofs.Groups.{length-group_bytes}
+use Rattle.sx_layout.proofs.Heads.{length-group_bytes}
 use Rattle.sx_log.proofs.Shown.{end_of-pushed}
 use Rattle.sx_log.specs.Row.{shown}
 use Rattle.sx_log.proofs.log.Log.add.Goals as goal
