@@ -3,7 +3,7 @@ use Rattle.std.proofs.Common.{◌≡◌, ◌∙◌, ℕ, ℤ, ◌≤◌, ◌⊎�
 use Rattle.std.proofs.lemmas.Bool.{false≢true}
 use Rattle.sx_layout.specs.Group.{Group, HasGroups, end_of}
 use Rattle.sx_outside.specs.Clock.{Ticks}
-use Rattle.sx_shell.specs.Crash.{Climbs, ClimbsFrom, GrowsByOne, During, Now, Failing, IsSealed, next_group}
+use Rattle.sx_shell.specs.Crash.{Climbs, ClimbsFrom, GrowsByOne, During, Failing, IsSealed, next_group}
 use Rattle.sx_shell.specs.declared.desk.Desk.{Desk}
 use Rattle.sx_volume.specs.Images.{Elapses, KeptSince}
 
@@ -78,10 +78,16 @@ climbs_none (Some all) is_image was has now desk moments failed only_now have = 
   failing = λ fault. inl (λ image left. have image (only_now image left));
 }
 
+-- what holds where bytes are told that are told where others are
+pub if_told_before : (P : Type 0) (bytes now : Option (List ℕ)) → is_some now ≡ is_some bytes → IfSome now (λ _. P) → IfSome bytes (λ _. P)
+if_told_before P None now same holds = tt
+if_told_before P (Some all) None same holds = absurd (false≢true same)
+if_told_before P (Some all) (Some also) same holds = holds
+
 -- and after one more
 pub climbs_then : (bytes told : Option (List ℕ)) (from start end : ℕ) (was is : ℕ → List ℕ → Type 0) (had has : ℕ → Type 0) (is_image : List ℕ → Type 0) (old desk new : Desk) (earlier moments : Option (List ℤ)) (failed : Type 0)
     → is_some told ≡ is_some bytes → ClimbsFrom bytes was had from start old desk earlier ⊥ → Elapses start end was is had has → GrowsByOne desk.log new.log failed
-    → ((failed → ⊥) → During told (is start) desk new) → ((failed → ⊥) → Now told is_image new) → (failed → Failing told start is has new moments) → ((image : List ℕ) → is end image → is_image image)
+    → ((failed → ⊥) → During told (is start) desk new) → ((failed → ⊥) → IfSome told (λ _. (image : List ℕ) → is_image image → HasGroups image new.log)) → (failed → Failing told start is has new moments) → ((image : List ℕ) → is end image → is_image image)
     → ClimbsFrom bytes is has from end old new moments failed
 climbs_then None told from start end was is had has is_image old desk new earlier moments failed same climbs time grows during now failing only_now = tt
 climbs_then (Some all) None from start end was is had has is_image old desk new earlier moments failed same climbs time grows during now failing only_now = absurd (false≢true same)

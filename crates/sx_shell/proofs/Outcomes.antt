@@ -2,7 +2,6 @@
 use Rattle.std.proofs.Common.{◌≡◌, ◌∙◌, ◌≤◌, ℕ, ℤ, ◌⊎◌, is_some, inl, inr, List, [], ◌++◌, Option, None, Some, IfSome, refl, ap, sym, subst, append_assoc, append-nil}
 use Rattle.sx_bytes.specs.declared.damage.Damage.{Damage}
 use Rattle.std.specs.Option.{option_map}
-use Rattle.std.proofs.lemmas.Bool.{false≢true}
 use Rattle.sx_layout.specs.Stands.{Stands}
 use Rattle.sx_log.specs.Reading.{IsOther, IsSynced, IsUnsynced}
 use Rattle.sx_log.specs.declared.fault.LogFault.{LogFault}
@@ -12,6 +11,7 @@ use Rattle.sx_run.proofs.Legal.{IsLegalCourse, GoesOn, step_legal, run_legal}
 use Rattle.sx_run.specs.Lines.{lines_of, ended_lines_of}
 use Rattle.sx_run.specs.Run.{Course, started}
 use Rattle.sx_shell.proofs.Crashes.{safe_none}
+use Rattle.sx_shell.proofs.Meanwhile.{if_told_before}
 use Rattle.sx_shell.specs.Crash.{IsBeforeSync, IsSafe, IsUnopened}
 use Rattle.sx_shell.specs.Ends.{IsAfterOpening}
 use Rattle.sx_shell.specs.Outcome.{Outcome}
@@ -77,8 +77,7 @@ told_from f (Some all) now is = ap (λ (b : Option (List ℕ)). is_some b) is
 
 -- what holds where bytes are told, which are told where those at the start are
 pub when_told : (P : Type 0) (bytes now : Option (List ℕ)) (image : List ℕ) → bytes ≡ Some image → is_some now ≡ is_some bytes → IfSome now (λ _. P) → P
-when_told P bytes None image is told holds = absurd (false≢true (told ∙ ap (λ (b : Option (List ℕ)). is_some b) is))
-when_told P bytes (Some all) image is told holds = holds
+when_told P bytes now image is told holds = at_told (λ _. P) bytes image is (if_told_before P bytes now told holds)
 
 -- the opening was refused
 pub refused : (start : Course) (status : Status) (failed : Type 0) (image : List ℕ) (first now : ℕ) (before is_image : List ℕ → Type 0) (was : ℕ → List ℕ → Type 0) (x y : ℕ → Type 0)

@@ -22,7 +22,7 @@ abbrev pub StandsWithNext : Course → ℤ → List ℕ → Type 0
 StandsWithNext end clock image = Stands image (end.commits ++ next_commit end clock ∷ [])
 
 -- A commit failed at its second stage, which begins when a sync has kept its group behind the closed gate: since then each image
--- stands for the commits with that one, once the gate is opened.
+-- stands for the commits with that one, once the gate is opened. Its time is by the clock's next moment.
 pub record FailedSecond (end : Course) (clock : ℤ) (failed : Type 0) (from : ℕ) (was : ℕ → List ℕ → Type 0) (has : ℕ → Type 0) : Type 0 where
   pub fails : failed
   pub fits : FitsSigned w64 clock
@@ -97,10 +97,6 @@ HasNext desk clock image = HasGroups image (desk.log ++ next_group desk clock �
 -- each image since the old desk has its groups, or those of the new one
 abbrev pub During : Option (List ℕ) → (List ℕ → Type 0) → Desk → Desk → Type 0
 During bytes since old new = IfSome bytes (λ _. (image : List ℕ) → since image → HasGroups image old.log ⊎ HasGroups image new.log)
-
--- each image now has the groups of the desk
-abbrev pub Now : Option (List ℕ) → (List ℕ → Type 0) → Desk → Type 0
-Now bytes is_image desk = IfSome bytes (λ _. (image : List ℕ) → is_image image → HasGroups image desk.log)
 
 -- A commit of the desk failed at its second stage: since its group was kept behind the closed gate, each image has that group once
 -- the gate is opened. Each image has the groups before it, or these with that one.

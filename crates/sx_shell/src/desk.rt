@@ -57,7 +57,7 @@ pub(crate) struct Desk {
 }
 
 impl Desk {
-    ghost use Rattle.sx_shell.specs.Crash.{During, Failing, GrowsByOne, Now};
+    ghost use Rattle.sx_shell.specs.Crash.{During, Failing, GrowsByOne};
     ghost use Rattle.sx_shell.specs.Shows.{Shows, Serves, Steps};
 
     /// The desk over the commits of a log, with revision 0 open.
@@ -90,7 +90,6 @@ impl Desk {
         ensures told { OnOk result (is_some (V.bytes volume.new) ≡ is_some (V.bytes volume.old)) }
         ensures nothing_done { IsErrOf result Stop.OutOfMemory → (V.bytes volume.new ≡ V.bytes volume.old) × Keeps (V.bytes volume.new) (V.size volume.new) (V.is_image volume.new) self.old.log }
         ensures during { (IsErrOf result Stop.VolumeFailed → ⊥) → During (V.bytes volume.old) (V.was_image volume.new (V.moment volume.old)) self.old self.new }
-        ensures now { (IsErrOf result Stop.VolumeFailed → ⊥) → Now (V.bytes volume.old) (V.is_image volume.new) self.new }
         ensures failing { IsErrOf result Stop.VolumeFailed → Failing (V.bytes volume.old) (V.moment volume.old) (V.was_image volume.new) (V.synced volume.new) self.new (C.moments clock.old) }
         ensures time { Elapses (V.moment volume.old) (V.moment volume.new) (V.was_image volume.old) (V.was_image volume.new) (V.synced volume.old) (V.synced volume.new) }
         ensures grows { GrowsByOne self.old.log self.new.log (IsErrOf result Stop.VolumeFailed) }
@@ -183,7 +182,6 @@ impl Desk {
         ensures told { OnOk result (is_some (V.bytes volume.new) ≡ is_some (V.bytes volume.old)) }
         ensures nothing_done { IsErrOf result Stop.OutOfMemory → (V.bytes volume.new ≡ V.bytes volume.old) × Keeps (V.bytes volume.new) (V.size volume.new) (V.is_image volume.new) self.old.log }
         ensures during { (IsErrOf result Stop.VolumeFailed → ⊥) → During (V.bytes volume.old) (V.was_image volume.new (V.moment volume.old)) self.old self.new }
-        ensures now { (IsErrOf result Stop.VolumeFailed → ⊥) → Now (V.bytes volume.old) (V.is_image volume.new) self.new }
         ensures failing { IsErrOf result Stop.VolumeFailed → Failing (V.bytes volume.old) (V.moment volume.old) (V.was_image volume.new) (V.synced volume.new) self.new (C.moments clock.old) }
         ensures time { Elapses (V.moment volume.old) (V.moment volume.new) (V.was_image volume.old) (V.was_image volume.new) (V.synced volume.old) (V.synced volume.new) }
         ensures grows { GrowsByOne self.old.log self.new.log (IsErrOf result Stop.VolumeFailed) }

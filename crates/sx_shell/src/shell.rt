@@ -8,7 +8,7 @@ ghost use Rattle.sx_layout.specs.Stands.{Stands};
 ghost use Rattle.sx_log.specs.Reading.{Explains};
 ghost use Rattle.sx_model.specs.Commit.{Commit};
 ghost use Rattle.sx_run.specs.Run.{Course, Step, started};
-ghost use Rattle.sx_shell.specs.Crash.{ClimbsFrom, During, Failing, GrowsByOne, IsSafe, IsUnopened, Now};
+ghost use Rattle.sx_shell.specs.Crash.{ClimbsFrom, During, Failing, GrowsByOne, IsSafe, IsUnopened};
 ghost use Rattle.sx_shell.specs.Ends.{IsAfterOpening, IsInLine};
 ghost use Rattle.sx_shell.specs.Outcome.{CommitFailed, Outcome};
 ghost use Rattle.sx_shell.specs.Progress.{Progress, Ended, Advanced};
@@ -148,7 +148,6 @@ fn advance<V: Volume, S: Source, K: Sink, C: Clock>(
     ensures kept { result ≢ Some Status.VolumeFault → Keeps (V.bytes volume.new) (V.size volume.new) (V.is_image volume.new) desk.new.log }
     ensures told { result ≢ Some Status.VolumeFault → is_some (V.bytes volume.new) ≡ is_some (V.bytes volume.old) }
     ensures during { result ≢ Some Status.VolumeFault → During (V.bytes volume.old) (V.was_image volume.new (V.moment volume.old)) desk.old desk.new }
-    ensures now { result ≢ Some Status.VolumeFault → Now (V.bytes volume.old) (V.is_image volume.new) desk.new }
     ensures failing { result ≡ Some Status.VolumeFault → Failing (V.bytes volume.old) (V.moment volume.old) (V.was_image volume.new) (V.synced volume.new) desk.new (C.moments clock.old) }
     ensures time { Elapses (V.moment volume.old) (V.moment volume.new) (V.was_image volume.old) (V.was_image volume.new) (V.synced volume.old) (V.synced volume.new) }
     ensures grows { GrowsByOne desk.old.log desk.new.log (result ≡ Some Status.VolumeFault) }
@@ -188,7 +187,6 @@ fn serve<V: Volume, K: Sink, C: Clock>(
     ensures kept { result ≢ Some Status.VolumeFault → Keeps (V.bytes volume.new) (V.size volume.new) (V.is_image volume.new) desk.new.log }
     ensures told { result ≢ Some Status.VolumeFault → is_some (V.bytes volume.new) ≡ is_some (V.bytes volume.old) }
     ensures during { result ≢ Some Status.VolumeFault → During (V.bytes volume.old) (V.was_image volume.new (V.moment volume.old)) desk.old desk.new }
-    ensures now { result ≢ Some Status.VolumeFault → Now (V.bytes volume.old) (V.is_image volume.new) desk.new }
     ensures failing { result ≡ Some Status.VolumeFault → Failing (V.bytes volume.old) (V.moment volume.old) (V.was_image volume.new) (V.synced volume.new) desk.new (C.moments clock.old) }
     ensures time { Elapses (V.moment volume.old) (V.moment volume.new) (V.was_image volume.old) (V.was_image volume.new) (V.synced volume.old) (V.synced volume.new) }
     ensures grows { GrowsByOne desk.old.log desk.new.log (result ≡ Some Status.VolumeFault) }

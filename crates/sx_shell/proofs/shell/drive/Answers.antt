@@ -1,11 +1,20 @@
-use Rattle.std.proofs.Common.{◌≡◌, ◌∙◌, Option, None, Some, refl, arith, rules}
+use Rattle.std.proofs.Common.{◌≡◌, ◌≢◌, ◌∙◌, ℕ, List, Option, None, Some, IfSome, is_some, refl, arith, rules}
+use Rattle.sx_layout.specs.Group.{Group, HasGroups}
+use Rattle.sx_log.specs.Keeps.{Keeps}
 use Rattle.sx_shell.specs.declared.status.Status.{Status}
 use Rattle.sx_shell.specs.declared.status.Status.TheVariants.{OutOfMemory, VolumeFault}
 use Rattle.sx_shell.specs.Waiting.{waiting}
-use Rattle.sx_shell.proofs.Meanwhile.{climbs_none, climbs_then, climbs_same}
+use Rattle.sx_shell.proofs.Meanwhile.{if_told_before, climbs_none, climbs_then, climbs_same}
 use Rattle.sx_shell.proofs.Progresses.{begun, none_begun}
 use Rattle.sx_volume.proofs.Images.{elapses_same, elapses_then}
 use Rattle.sx_shell.proofs.shell.drive.Goals as goal
+
+-- a line that did not fail left the groups in each image
+still_has : (result : Option Status) (log : List Group) (bytes now : Option (List ℕ)) (size : ℕ) (is_image : List ℕ → Type 0)
+    → (result ≢ Some VolumeFault → is_some now ≡ is_some bytes) → (result ≢ Some VolumeFault → Keeps now size is_image log)
+    → (result ≡ Some VolumeFault → ⊥) → IfSome bytes (λ _. (image : List ℕ) → is_image image → HasGroups image log)
+still_has result log bytes now size is_image told kept fine =
+    if_told_before ((image : List ℕ) → is_image image → HasGroups image log) bytes now (told fine) (kept fine).images
 
 pub loop-init : goal.loop-init
 loop-init g c = record {
@@ -41,7 +50,7 @@ returns-in-Some-advance-clause-ended g c =
           (climbs_then (g.V.Volume.bytes c.args.volume.now) (g.V.Volume.bytes c.loop.volume) (g.V.Volume.moment c.args.volume.now) (g.V.Volume.moment c.loop.volume) (g.V.Volume.moment c.advance.new.volume)
           (g.V.Volume.was_image c.loop.volume) (g.V.Volume.was_image c.advance.new.volume) (g.V.Volume.synced c.loop.volume) (g.V.Volume.synced c.advance.new.volume) (g.V.Volume.is_image c.advance.new.volume)
           c.args.desk.now c.loop.desk c.advance.new.desk None past (c.advance.result ≡ Some VolumeFault)
-          c.loop.invariant.told c.loop.invariant.climbs c.advance.ensures.time c.advance.ensures.grows c.advance.ensures.during c.advance.ensures.now c.advance.ensures.failing (g.met.V.Volume.only_now c.advance.new.volume)),
+          c.loop.invariant.told c.loop.invariant.climbs c.advance.ensures.time c.advance.ensures.grows c.advance.ensures.during (still_has c.advance.result c.advance.new.desk.log (g.V.Volume.bytes c.loop.volume) (g.V.Volume.bytes c.advance.new.volume) (g.V.Volume.size c.advance.new.volume) (g.V.Volume.is_image c.advance.new.volume) c.advance.ensures.told c.advance.ensures.kept) c.advance.ensures.failing (g.met.V.Volume.only_now c.advance.new.volume)),
     )
 
 none_failed : (status : Option Status) → status ≡ None → status ≡ Some VolumeFault → ⊥
@@ -61,7 +70,7 @@ loop-preserved g c =
           (climbs_then (g.V.Volume.bytes c.args.volume.now) (g.V.Volume.bytes c.loop.volume) (g.V.Volume.moment c.args.volume.now) (g.V.Volume.moment c.loop.volume) (g.V.Volume.moment c.advance.new.volume)
           (g.V.Volume.was_image c.loop.volume) (g.V.Volume.was_image c.advance.new.volume) (g.V.Volume.synced c.loop.volume) (g.V.Volume.synced c.advance.new.volume) (g.V.Volume.is_image c.advance.new.volume)
           c.args.desk.now c.loop.desk c.advance.new.desk None (g.C.Clock.moments c.loop.clock) (c.advance.result ≡ Some VolumeFault)
-          c.loop.invariant.told c.loop.invariant.climbs c.advance.ensures.time c.advance.ensures.grows c.advance.ensures.during c.advance.ensures.now c.advance.ensures.failing (g.met.V.Volume.only_now c.advance.new.volume));
+          c.loop.invariant.told c.loop.invariant.climbs c.advance.ensures.time c.advance.ensures.grows c.advance.ensures.during (still_has c.advance.result c.advance.new.desk.log (g.V.Volume.bytes c.loop.volume) (g.V.Volume.bytes c.advance.new.volume) (g.V.Volume.size c.advance.new.volume) (g.V.Volume.is_image c.advance.new.volume) c.advance.ensures.told c.advance.ensures.kept) c.advance.ensures.failing (g.met.V.Volume.only_now c.advance.new.volume));
       source_faults = omega (arith, c.loop.invariant.source_faults, c.advance.ensures.source_faults);
       sink_faults = omega (arith, c.loop.invariant.sink_faults, c.advance.ensures.sink_faults);
       volume_faults = omega (arith, c.loop.invariant.volume_faults, c.advance.ensures.volume_faults);
