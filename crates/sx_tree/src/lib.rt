@@ -2,10 +2,14 @@
 #![tactic(auto)]
 
 pub mod bytes;
+pub mod edit;
 pub mod json;
 pub mod literal;
 pub mod member_list;
 mod names;
 pub mod number;
+pub mod numbers;
+pub mod query;
 pub mod record;
+pub mod steps;
 pub mod text;
