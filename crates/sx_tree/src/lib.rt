@@ -3,6 +3,7 @@
 
 pub mod bytes;
 pub mod json;
+pub mod json_fault;
 pub mod literal;
 pub mod member_list;
 mod names;
