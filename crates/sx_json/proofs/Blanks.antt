@@ -1,7 +1,7 @@
 -- White space between tokens changes nothing.
 use Rattle.std.proofs.Common.{◌≡◌, ℕ, zero, suc, ◌≤◌, inr, List, [], ◌∷◌, ◌++◌, arith}
 use Rattle.sx_tree.specs.Value.{Value, Values, no_values, value_then, Fields, no_fields, field_then, value_of}
-use Rattle.sx_json.specs.Grammar.{IsBlank, AreBlanks, Led, NameThen, ValueAt, ElementsAt, MoreElementsAt, MembersAt, MoreMembersAt}
+use Rattle.sx_model.specs.Grammar.{IsBlank, AreBlanks, Led, NameThen, ValueAt, ElementsAt, MoreElementsAt, MembersAt, MoreMembersAt}
 use Rattle.sx_json.specs.Frames.{Close, Goes}
 use Rattle.sx_json.specs.declared.reader.Frame.{Frame}
 use Rattle.sx_json.specs.declared.reader.Frame.TheVariants.{Array, Member}

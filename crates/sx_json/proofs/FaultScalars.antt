@@ -4,7 +4,7 @@ use Rattle.std.proofs.lemmas.List.{append-nil, length-append, length-take-le, ta
 use Rattle.std.proofs.lemmas.Bool.{cases_lt}
 use Rattle.std.proofs.Math.Seq.{take-append-add, take-append_seam}
 use Rattle.sx_tree.specs.Number.{IsNumber, BeginsNumber, IsLongestFront}
-use Rattle.sx_json.specs.Grammar.{AreBlanks, Skips}
+use Rattle.sx_model.specs.Grammar.{AreBlanks, Skips}
 use Rattle.sx_json.proofs.StringTexts.{tail_ascii}
 use Rattle.sx_json.proofs.Values.{blank_small}
 use Rattle.sx_json.proofs.ScalarReads.{IsNumberByte, AreNumberBytes, front_is}

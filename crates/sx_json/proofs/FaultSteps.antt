@@ -6,13 +6,13 @@ use Rattle.sx_tree.specs.declared.json.Json as json
 use Rattle.sx_tree.specs.declared.json.Json.{Json}
 use Rattle.sx_tree.specs.Names.{AreDistinct, names_of}
 use Rattle.sx_tree.specs.Value.{Value, scalar, array, object, Values, no_values, value_then, Fields, no_fields, field_then}
-use Rattle.sx_json.specs.Strings.{TextAt}
-use Rattle.sx_json.specs.Grammar.{AreBlanks, IsSolid, BeginsOther, Skips, Led, NameThen, ValueAt, ElementsAt, MoreElementsAt, MembersAt, MoreMembersAt, names_in}
-use Rattle.sx_json.specs.StringFaults.{unexpected}
-use Rattle.sx_json.specs.Faults.{Next, WholeAt, ScalarFault, CommaFault, ElementsFault, NewName, MemberNameFault, MembersFault, ValueFault, TextFault}
+use Rattle.sx_model.specs.Strings.{TextAt}
+use Rattle.sx_model.specs.Grammar.{AreBlanks, IsSolid, BeginsOther, Skips, Led, NameThen, ValueAt, ElementsAt, MoreElementsAt, MembersAt, MoreMembersAt, names_in}
+use Rattle.sx_model.specs.StringFaults.{unexpected}
+use Rattle.sx_model.specs.Faults.{Next, WholeAt, ScalarFault, CommaFault, ElementsFault, NewName, MemberNameFault, MembersFault, ValueFault, TextFault}
 use Rattle.sx_json.specs.FaultFrames.{CloseFault, AwaitsFault, GoesFault, FollowsFault, KeepsFaults}
-use Rattle.sx_json.specs.declared.fault.JsonFault.{JsonFault}
-use Rattle.sx_json.specs.declared.fault.JsonFault.TheVariants.{BadByte, TooDeep}
+use Rattle.sx_tree.specs.declared.json_fault.JsonFault.{JsonFault}
+use Rattle.sx_tree.specs.declared.json_fault.JsonFault.TheVariants.{BadByte, TooDeep}
 use Rattle.sx_json.specs.declared.reader.Frame.{Frame}
 use Rattle.sx_json.specs.declared.reader.Frame.TheVariants.{Array, Member}
 use Rattle.sx_json.specs.declared.reader.Turn.{Turn}

@@ -7,10 +7,10 @@ use Rattle.std.proofs.Math.Seq.{take-append_seam, take-append-add, drop-append_s
 use Rattle.std.proofs.Math.Utf8.{low_scalar}
 use Rattle.std.specs.Char.{IsScalar}
 use Rattle.std.specs.Str.{IsValidUpTo, IsCharBoundary}
-use Rattle.sx_json.specs.Strings.{UnitAt, StringAt, TextAt, closing}
-use Rattle.sx_json.specs.StringFaults.{UnicodeAt, EscapeAt, PieceAt, FrontFault}
-use Rattle.sx_json.specs.Front.{IsStringFront}
-use Rattle.sx_json.specs.declared.fault.JsonFault.{JsonFault}
+use Rattle.sx_model.specs.Strings.{UnitAt, StringAt, TextAt, closing}
+use Rattle.sx_model.specs.StringFaults.{UnicodeAt, EscapeAt, PieceAt, FrontFault}
+use Rattle.sx_model.specs.Front.{IsStringFront}
+use Rattle.sx_tree.specs.declared.json_fault.JsonFault.{JsonFault}
 use Rattle.sx_json.proofs.StringShapes.{heads, short_small, piece_then}
 use Rattle.sx_json.proofs.StringTexts.{hex_small, escape_scalar}
 use Rattle.sx_json.proofs.OneStringFault.{Chain, ends, goes, chain_of, string_same, quote_not_fault}

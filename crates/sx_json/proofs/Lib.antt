@@ -17,5 +17,4 @@ pub mod OneFault
 pub mod Skipping
 pub mod Texts
 pub mod WrittenStrings
-pub mod WrittenNumbers
 pub mod ReadBack

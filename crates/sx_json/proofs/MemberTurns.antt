@@ -3,9 +3,9 @@ use Rattle.std.proofs.Common.{◌≡◌, ◌≢◌, ℕ, zero, suc, inl, inr, Li
 use Rattle.sx_tree.specs.declared.json.Json.{Json}
 use Rattle.sx_tree.specs.Names.{AreDistinct, names_of}
 use Rattle.sx_tree.specs.Value.{Value, object, Fields, no_fields, field_then, value_of, fields_of}
-use Rattle.sx_json.specs.Strings.{TextAt}
+use Rattle.sx_model.specs.Strings.{TextAt}
 use Rattle.sx_json.specs.Reading.{ReadsText}
-use Rattle.sx_json.specs.Grammar.{IsBlank, AreBlanks, Led, NameThen, ValueAt, MembersAt, MoreMembersAt, names_in}
+use Rattle.sx_model.specs.Grammar.{IsBlank, AreBlanks, Led, NameThen, ValueAt, MembersAt, MoreMembersAt, names_in}
 use Rattle.sx_json.specs.Frames.{Close, Awaits, AwaitsMembers, AwaitsName, append_fields}
 use Rattle.sx_json.specs.declared.reader.Frame.{Frame}
 use Rattle.sx_json.specs.declared.reader.Frame.TheVariants.{Member}

@@ -11,12 +11,12 @@ use Rattle.sx_tree.specs.declared.json.Scalar.TheVariants.{Str, Number, Bool, Nu
 use Rattle.sx_tree.specs.Names.{AreDistinct}
 use Rattle.sx_tree.specs.Number.{IsDigit, IsNumber, IsLongestFront}
 use Rattle.sx_tree.specs.Value.{Value, scalar, array, object, Values, no_values, value_then, Fields, no_fields, field_then}
-use Rattle.sx_json.specs.Strings.{TextAt}
-use Rattle.sx_json.specs.Grammar.{IsBlank, AreBlanks, IsSolid, BeginsOther, Skips, Led, NameThen, ValueAt, ElementsAt, MoreElementsAt, MembersAt, MoreMembersAt, names_in, Spells}
-use Rattle.sx_json.specs.StringFaults.{unexpected, QuotedFault, QuoteFault, FrontFault, cut}
-use Rattle.sx_json.specs.Faults.{Next, IsFirst, IsLiteralName, WordFault, NumberFault, ScalarFault, Ends, WholeAt, ElementsFault, NewName, MemberNameFault, MembersFault, ValueFault, TextFault, Faults}
-use Rattle.sx_json.specs.declared.fault.JsonFault.{JsonFault}
-use Rattle.sx_json.specs.declared.fault.JsonFault.TheVariants.{BadByte, TooDeep, DuplicateName, Ended}
+use Rattle.sx_model.specs.Strings.{TextAt}
+use Rattle.sx_model.specs.Grammar.{IsBlank, AreBlanks, IsSolid, BeginsOther, Skips, Led, NameThen, ValueAt, ElementsAt, MoreElementsAt, MembersAt, MoreMembersAt, names_in, Spells}
+use Rattle.sx_model.specs.StringFaults.{unexpected, QuotedFault, QuoteFault, FrontFault, cut}
+use Rattle.sx_model.specs.Faults.{Next, IsFirst, IsLiteralName, WordFault, NumberFault, ScalarFault, Ends, WholeAt, ElementsFault, NewName, MemberNameFault, MembersFault, ValueFault, TextFault, Faults}
+use Rattle.sx_tree.specs.declared.json_fault.JsonFault.{JsonFault}
+use Rattle.sx_tree.specs.declared.json_fault.JsonFault.TheVariants.{BadByte, TooDeep, DuplicateName, Ended}
 use Rattle.sx_json.proofs.StringShapes.{heads, nothing_there}
 use Rattle.sx_json.proofs.OneStringFault.{string_same, quoted_not_fault, quoted_fault_same, quote_not_fault, quote_fault_same}
 use Rattle.sx_json.proofs.Values.{blank_small, First, a_string, a_number, a_true, a_false, a_null, an_array, an_object, first_of, no_value_of_nothing, no_value_from}

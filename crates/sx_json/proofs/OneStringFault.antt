@@ -4,9 +4,10 @@ use Rattle.std.proofs.lemmas.List.{append-nil, length-append}
 use Rattle.std.proofs.lemmas.Str.{encode_ascii}
 use Rattle.std.proofs.Math.Utf8.{scalar_cases}
 use Rattle.std.specs.Char.{IsScalar}
-use Rattle.sx_json.specs.Strings.{IsShortEscape, DigitAt, UnitAt, LowAt, IsLowSurrogate, pair_char, IsText, StringAt, TextAt, closing, plain, short, unicode, pair}
-use Rattle.sx_json.specs.StringFaults.{UnicodeAt, EscapeAt, PieceAt, DigitsFault, LowEscapeFault, LowFault, UnicodeFault, EscapeFault, PieceFault, QuotedFault, QuoteFault, StringFault, in_piece, too_long, behind}
-use Rattle.sx_json.specs.declared.fault.JsonFault.{JsonFault}
+use Rattle.sx_model.specs.Strings.{IsShortEscape, DigitAt, UnitAt, LowAt, IsLowSurrogate, pair_char, StringAt, TextAt, closing, plain, short, unicode, pair}
+use Rattle.sx_model.specs.StringFaults.{UnicodeAt, EscapeAt, PieceAt, DigitsFault, LowEscapeFault, LowFault, UnicodeFault, EscapeFault, PieceFault, QuotedFault, QuoteFault, StringFault, in_piece, too_long, behind}
+use Rattle.sx_tree.specs.Text.{IsText}
+use Rattle.sx_tree.specs.declared.json_fault.JsonFault.{JsonFault}
 use Rattle.sx_json.specs.Reading.{ReadsText}
 use Rattle.sx_json.proofs.Units.{DigitAt-same, first_digit, unit_same}
 use Rattle.sx_json.proofs.StringShapes.{heads, seconds, short_small}

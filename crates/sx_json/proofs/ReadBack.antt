@@ -6,13 +6,14 @@ use Rattle.sx_tree.specs.declared.json.Json.{Json}
 use Rattle.sx_tree.specs.declared.json.Scalar.{Scalar}
 use Rattle.sx_tree.specs.declared.json.Scalar.TheVariants.{Str, Number, Bool, Null}
 use Rattle.sx_tree.specs.Value.{Value, scalar, array, object, Values, no_values, value_then, Fields, no_fields, field_then, value_of, values_of, fields_of, depth, depth_of_values, depth_of_fields}
-use Rattle.sx_json.specs.Canonical.{escaped, string_text, scalar_text, text, elements_text, more_elements_text, members_text, more_members_text}
-use Rattle.sx_json.specs.Grammar.{Led, NameThen, ScalarAt, ValueAt, ElementsAt, MoreElementsAt, MembersAt, MoreMembersAt, Spells}
-use Rattle.sx_json.specs.Limits.{ScalarKeepsLimits, KeepsLimits, ElementsKeepLimits, MembersKeepLimits}
-use Rattle.sx_json.specs.Strings.{IsText, TextAt}
+use Rattle.sx_model.specs.Canonical.{escaped, string_text, scalar_text, text, elements_text, more_elements_text, members_text, more_members_text}
+use Rattle.sx_model.specs.Grammar.{Led, NameThen, ScalarAt, ValueAt, ElementsAt, MoreElementsAt, MembersAt, MoreMembersAt, Spells}
+use Rattle.sx_model.specs.Limits.{ScalarKeepsLimits, KeepsLimits, ElementsKeepLimits, MembersKeepLimits}
+use Rattle.sx_model.specs.Strings.{TextAt}
+use Rattle.sx_tree.specs.Text.{IsText}
 use Rattle.sx_json.proofs.Values.{Led-from}
-use Rattle.sx_json.proofs.WrittenStrings.{content_spelled, ascii_then, IsUtf8-string_text}
-use Rattle.sx_json.proofs.WrittenNumbers.{IsUtf8-number}
+use Rattle.sx_json.proofs.WrittenStrings.{content_spelled, IsUtf8-string_text}
+use Rattle.sx_tree.proofs.NumberTexts.{ascii_then, IsUtf8-number}
 
 string_spelled : (content after : List ℕ) → IsText content → TextAt (flat_map escaped content ++ 34 ∷ after) content after
 string_spelled content after h = (content_spelled content after, h)
@@ -23,7 +24,7 @@ string_before content after = ap (λ l. 34 ∷ l) (append_assoc (flat_map escape
 
 scalar_spelled : (s : Scalar) (left : List ℕ) → ScalarKeepsLimits s → ScalarAt s (scalar_text s ++ left) left
 scalar_spelled (Str content) left h = (flat_map escaped content ++ 34 ∷ left, string_before content left, string_spelled content left h)
-scalar_spelled (Number literal) left h = (h.0, h.1, refl)
+scalar_spelled (Number literal) left h = (h, refl)
 scalar_spelled (Bool true) left h = refl
 scalar_spelled (Bool false) left h = refl
 scalar_spelled Null left h = refl

@@ -1,7 +1,7 @@
 -- Facts on one side of a result.
 use Rattle.std.proofs.Common.{◌≡◌, refl, sym, subst, inl, inr, Result, Ok, Err, IfOk, IfErr, MatchResult}
-use Rattle.sx_json.specs.declared.fault.JsonFault.{JsonFault}
-use Rattle.sx_json.specs.declared.fault.JsonFault.TheVariants.{BadByte, TooDeep, DuplicateName, LoneSurrogate, NumberTooLong, StringTooLong, Ended, OutOfMemory}
+use Rattle.sx_tree.specs.declared.json_fault.JsonFault.{JsonFault}
+use Rattle.sx_tree.specs.declared.json_fault.JsonFault.TheVariants.{BadByte, TooDeep, DuplicateName, LoneSurrogate, NumberTooLong, StringTooLong, Ended, OutOfMemory}
 use Rattle.sx_json.specs.Reading.{Refuses, UnlessMemory}
 
 pub if_ok_map : {T E : Type 0} (P Q : T → Type 0) (r : Result T E) → IfOk r P → ((x : T) → P x → Q x) → IfOk r Q

@@ -5,7 +5,7 @@ use Rattle.std.proofs.Math.Seq.{take-append_seam}
 use Rattle.sx_tree.specs.declared.json.Scalar.TheVariants.{Str, Number, Bool, Null}
 use Rattle.sx_tree.specs.Number.{IsNumber, IsDigit, AreDigits, AreSomeDigits, IsMinus, IsInt, IsFrac, IsSign, IsExp, BeginsNumber, IsLongestFront}
 use Rattle.sx_tree.specs.Value.{Value, scalar, Values, no_values, value_then, Fields, no_fields, field_then}
-use Rattle.sx_json.specs.Grammar.{IsBlank, BeginsNumberAt, ValueAt, MoreElementsAt, MoreMembersAt}
+use Rattle.sx_model.specs.Grammar.{IsBlank, BeginsNumberAt, ValueAt, MoreElementsAt, MoreMembersAt}
 use Rattle.sx_json.specs.Frames.{Close, Awaits, ReadsScalar}
 use Rattle.sx_json.specs.Reading.{ReadsText}
 use Rattle.sx_json.specs.declared.reader.Frame.{Frame}
@@ -167,7 +167,7 @@ number_must frames room v byte rest front left first is bytes longest h =
         absurd (apart c (AreNumberBytes-at l m c (subst AreNumberBytes e bytes)) (close_first frames room (scalar (Number l)) v c (m ++ left) (subst (λ y. Close frames room (scalar (Number l)) v y) f close)))
 
 pub number_from : (frames : List Frame) (room : ℕ) (v : Value) (bytes literal left : List ℕ) → IsNumber literal → length literal ≤ 64 → bytes ≡ literal ++ left → Close frames room (scalar (Number literal)) v left → Awaits frames room v bytes
-number_from frames room v bytes literal left n short is h = (scalar (Number literal), left, Led-from (λ b. ValueAt (scalar (Number literal)) room b left) bytes (n, short, is), h)
+number_from frames room v bytes literal left n short is h = (scalar (Number literal), left, Led-from (λ b. ValueAt (scalar (Number literal)) room b left) bytes ((n, short), is), h)
 
 -- The longest front of the first bytes is at least as long as each number at the front of them all.
 pub longest_from : (bytes : List ℕ) (most len : ℕ) → most ≡ min (length bytes) 65 → IsLongestFront (take most bytes) len → (l left : List ℕ) → IsNumber l → length l ≤ 64 → bytes ≡ l ++ left → length l ≤ len

@@ -1,7 +1,7 @@
 -- White space and words, byte by byte.
 use Rattle.std.proofs.Common.{◌≡◌, ℕ, ◌+◌, ◌<◌, List, [], ◌∷◌, ◌++◌, refl, ap, sym, ◌∙◌, length, take, drop, get_or, append_assoc}
 use Rattle.std.proofs.lemmas.List.{take-append-drop, take_more}
-use Rattle.sx_json.specs.Grammar.{AreBlanks, BeginsOther, IsBlank, Skips}
+use Rattle.sx_model.specs.Grammar.{AreBlanks, BeginsOther, IsBlank, Skips}
 use Rattle.sx_json.proofs.StringShapes.{heads}
 
 AreBlanks-push : (blanks : List ℕ) (b : ℕ) → AreBlanks blanks → IsBlank b → AreBlanks (blanks ++ b ∷ [])

@@ -9,7 +9,7 @@ use Rattle.sx_tree.specs.Names.{AreDistinct, names_of}
 use Rattle.sx_tree.specs.Value.{scalar, array, object, no_fields, value_of, values_of, fields_of}
 use Rattle.sx_json.specs.Reading.{ReadsText}
 use Rattle.sx_json.specs.Frames.{Close, Awaits, AwaitsElements, AwaitsMembers, AwaitsName, Goes, Follows, Steps}
-use Rattle.sx_json.specs.Grammar.{IsSolid, BeginsOther, Skips}
+use Rattle.sx_model.specs.Grammar.{IsSolid, BeginsOther, Skips}
 use Rattle.sx_json.specs.declared.reader.Frame.{Frame}
 use Rattle.sx_json.specs.declared.reader.Frame.TheVariants.{Array, Member}
 use Rattle.sx_json.specs.declared.reader.Turn.{Turn}

@@ -1,8 +1,8 @@
 -- Strings, piece by piece.
 use Rattle.std.proofs.Common.{◌≡◌, ℕ, ◌<◌, inl, inr, List, [], ◌∷◌, ◌++◌, sym, subst, arith, encode_utf8}
 use Rattle.std.proofs.lemmas.Str.{encode_ascii}
-use Rattle.sx_json.specs.Strings.{IsShortEscape, UnitAt, StringAt, plain, short, unicode, pair}
-use Rattle.sx_json.specs.StringFaults.{UnicodeAt, EscapeAt, PieceAt}
+use Rattle.sx_model.specs.Strings.{IsShortEscape, UnitAt, StringAt, plain, short, unicode, pair}
+use Rattle.sx_model.specs.StringFaults.{UnicodeAt, EscapeAt, PieceAt}
 
 -- what two equal lists have in common
 pub heads : (a b : ℕ) (xs ys : List ℕ) → a ∷ xs ≡ b ∷ ys → (a ≡ b) × (xs ≡ ys)

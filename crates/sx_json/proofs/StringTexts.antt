@@ -6,12 +6,12 @@ use Rattle.std.proofs.lemmas.Str.{IsUtf8-append, IsUtf8-take, IsUtf8-drop, IsUtf
 use Rattle.std.proofs.Math.Utf8.{low_scalar}
 use Rattle.std.specs.Char.{IsScalar}
 use Rattle.std.specs.Str.{IsValidUpTo}
-use Rattle.sx_json.specs.Strings.{IsHexDigit, UnitAt, pair_char}
+use Rattle.sx_model.specs.Strings.{IsHexDigit, UnitAt, pair_char}
 use Rattle.sx_json.proofs.Results.{unless_map}
 use Rattle.sx_json.proofs.StringShapes.{short_small}
 use Rattle.sx_json.specs.Reading.{UnlessMemory}
-use Rattle.sx_json.specs.StringFaults.{UnicodeAt, EscapeAt, PieceAt, StringFault, QuotedFault, QuoteFault, FrontFault, cut}
-use Rattle.sx_json.specs.declared.fault.JsonFault.{JsonFault}
+use Rattle.sx_model.specs.StringFaults.{UnicodeAt, EscapeAt, PieceAt, StringFault, QuotedFault, QuoteFault, FrontFault, cut}
+use Rattle.sx_tree.specs.declared.json_fault.JsonFault.{JsonFault}
 
 pub split_ascii : (xs ys : List ℕ) (b : ℕ) → b < 128 → IsUtf8 (xs ++ b ∷ ys) → IsUtf8 xs × IsUtf8 ys
 split_ascii xs ys b small u =

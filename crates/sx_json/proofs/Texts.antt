@@ -2,14 +2,14 @@
 use Rattle.std.proofs.Common.{◌≡◌, ℕ, inl, inr, List, [], refl, ap, subst, arith, length, take, IsUtf8}
 use Rattle.sx_tree.specs.declared.json.Json.{Json}
 use Rattle.sx_tree.specs.Value.{Value, value_of}
-use Rattle.sx_json.specs.Grammar.{Led, Skips, Spells, ValueAt}
+use Rattle.sx_model.specs.Grammar.{Led, Skips, Spells, ValueAt}
 use Rattle.sx_json.specs.Frames.{Follows, Steps}
 use Rattle.std.proofs.lemmas.List.{length-take-le}
 use Rattle.std.specs.Str.{IsValidUpTo}
-use Rattle.sx_json.specs.Faults.{Faults, TextFault}
-use Rattle.sx_json.specs.StringFaults.{cut}
+use Rattle.sx_model.specs.Faults.{Faults, TextFault}
+use Rattle.sx_model.specs.StringFaults.{cut}
 use Rattle.sx_json.specs.Reading.{UnlessMemory}
-use Rattle.sx_json.specs.declared.fault.JsonFault.{JsonFault}
+use Rattle.sx_tree.specs.declared.json_fault.JsonFault.{JsonFault}
 use Rattle.sx_json.specs.Outcome.{Reads}
 use Rattle.sx_json.specs.declared.reader.Frame.{Frame}
 use Rattle.sx_json.specs.declared.reader.Turn.{Turn}

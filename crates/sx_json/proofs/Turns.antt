@@ -5,10 +5,10 @@ use Rattle.sx_tree.specs.declared.json.Json.{Json}
 use Rattle.sx_tree.specs.Names.{AreDistinct}
 use Rattle.sx_tree.specs.Number.{IsDigit}
 use Rattle.sx_tree.specs.Value.{Value, scalar, array, object, Values, no_values, value_then, Fields, value_of, values_of}
-use Rattle.sx_json.specs.Strings.{TextAt}
+use Rattle.sx_model.specs.Strings.{TextAt}
 use Rattle.sx_json.specs.Reading.{ReadsText}
-use Rattle.sx_json.specs.Faults.{IsFirst}
-use Rattle.sx_json.specs.Grammar.{IsBlank, Led, ValueAt, ElementsAt, MoreElementsAt, MembersAt, names_in}
+use Rattle.sx_model.specs.Faults.{IsFirst}
+use Rattle.sx_model.specs.Grammar.{IsBlank, Led, ValueAt, ElementsAt, MoreElementsAt, MembersAt, names_in}
 use Rattle.sx_json.specs.Frames.{Close, Awaits, AwaitsElements, AwaitsMembers, append_values}
 use Rattle.sx_json.specs.declared.reader.Frame.{Frame}
 use Rattle.sx_json.specs.declared.reader.Frame.TheVariants.{Array}

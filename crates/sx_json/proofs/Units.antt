@@ -1,6 +1,6 @@
 -- Four digits are one number.
 use Rattle.std.proofs.Common.{◌≡◌, ℕ, ◌+◌, ◌*◌, inl, inr, List, ◌∷◌, refl, ap, sym, ◌∙◌, subst, arith}
-use Rattle.sx_json.specs.Strings.{DigitAt, IsHexDigit, UnitAt}
+use Rattle.sx_model.specs.Strings.{DigitAt, IsHexDigit, UnitAt}
 
 pub digits_same : (byte d e : ℕ) → IsHexDigit byte d → IsHexDigit byte e → d ≡ e
 digits_same byte d e (inl p) (inl q) = omega (arith, p.2, q.2)

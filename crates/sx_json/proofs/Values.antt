@@ -4,9 +4,9 @@ use Rattle.sx_tree.specs.declared.json.Scalar.TheVariants.{Str, Number, Bool, Nu
 use Rattle.sx_tree.specs.Names.{AreDistinct}
 use Rattle.sx_tree.specs.Number.{IsNumber, IsDigit, IsMinus, IsInt}
 use Rattle.sx_tree.specs.Value.{Value, scalar, array, object, Values, Fields}
-use Rattle.sx_json.specs.Strings.{TextAt}
-use Rattle.sx_json.specs.Faults.{IsFirst}
-use Rattle.sx_json.specs.Grammar.{IsBlank, Led, ValueAt, ElementsAt, MembersAt, names_in}
+use Rattle.sx_model.specs.Strings.{TextAt}
+use Rattle.sx_model.specs.Faults.{IsFirst}
+use Rattle.sx_model.specs.Grammar.{IsBlank, Led, ValueAt, ElementsAt, MembersAt, names_in}
 use Rattle.sx_json.proofs.StringShapes.{heads, nothing_there}
 
 pub blank_small : (byte : ℕ) → IsBlank byte → byte ≤ 32
@@ -52,9 +52,9 @@ first_of (scalar (Str content)) room byte rest left h =
     let s = heads byte 34 rest h.0 h.1 in
     a_string content refl s.0 (subst (λ r. TextAt r content left) (sym s.1) h.2)
 first_of (scalar (Number literal)) room byte rest left h =
-    let f = first_of_number literal h.0 in
-    let s = heads byte f.0 rest (f.1 ++ left) (h.2 ∙ ap (λ l. l ++ left) f.2) in
-    a_number literal refl (subst (λ b. (b ≡ 45) ⊎ IsDigit b) (sym s.0) f.3) h.0 h.1 h.2
+    let f = first_of_number literal h.0.0 in
+    let s = heads byte f.0 rest (f.1 ++ left) (h.1 ∙ ap (λ l. l ++ left) f.2) in
+    a_number literal refl (subst (λ b. (b ≡ 45) ⊎ IsDigit b) (sym s.0) f.3) h.0.0 h.0.1 h.1
 first_of (scalar (Bool true)) room byte rest left h =
     let s = heads byte 116 rest (114 ∷ 117 ∷ 101 ∷ left) h in a_true refl s.0 h
 first_of (scalar (Bool false)) room byte rest left h =
@@ -72,7 +72,7 @@ first_of (object fs) room byte rest left h =
 pub no_value_of_nothing : (x : Value) (room : ℕ) (left : List ℕ) → ValueAt x room [] left → ⊥
 no_value_of_nothing (scalar (Str content)) room left h = nothing_there 34 h.0 h.1
 no_value_of_nothing (scalar (Number literal)) room left h =
-    let f = first_of_number literal h.0 in nothing_there f.0 (f.1 ++ left) (h.2 ∙ ap (λ l. l ++ left) f.2)
+    let f = first_of_number literal h.0.0 in nothing_there f.0 (f.1 ++ left) (h.1 ∙ ap (λ l. l ++ left) f.2)
 no_value_of_nothing (scalar (Bool true)) room left h = nothing_there 116 (114 ∷ 117 ∷ 101 ∷ left) h
 no_value_of_nothing (scalar (Bool false)) room left h = nothing_there 102 (97 ∷ 108 ∷ 115 ∷ 101 ∷ left) h
 no_value_of_nothing (scalar Null) room left h = nothing_there 110 (117 ∷ 108 ∷ 108 ∷ left) h

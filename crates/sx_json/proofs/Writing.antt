@@ -3,7 +3,7 @@ use Rattle.std.proofs.Common.{◌≡◌, ℕ, zero, suc, ◌+◌, ◌<◌, List,
 use Rattle.std.proofs.lemmas.List.{take_more, append-nil, length-take}
 use Rattle.sx_tree.specs.declared.json.Json.{Json}
 use Rattle.sx_tree.specs.Value.{value_of, values_of, fields_of}
-use Rattle.sx_json.specs.Canonical.{comma_before, string_text, text, elements_text, more_elements_text, members_text, more_members_text}
+use Rattle.sx_model.specs.Canonical.{comma_before, string_text, text, elements_text, more_elements_text, members_text, more_members_text}
 
 more_elements_text-push : (xs : List Json) (x : Json) → more_elements_text (values_of (xs ++ x ∷ [])) ≡ more_elements_text (values_of xs) ++ 44 ∷ text (value_of x)
 more_elements_text-push [] x = ap (λ l. 44 ∷ l) (append-nil (text (value_of x)))

@@ -4,8 +4,9 @@ use Rattle.std.proofs.lemmas.Bool.{and_parts, cases_lt, cases_eq}
 use Rattle.std.proofs.lemmas.Grind.{flat_map-append}
 use Rattle.std.proofs.lemmas.Str.{IsUtf8-append, IsUtf8-nil, IsUtf8-encode, encode_ascii, inside_one}
 use lib.Utf8.{scalar, scalars, encode, encodes, low_scalar}
-use Rattle.sx_json.specs.Canonical.{lower_hex_digit, escaped, string_text}
-use Rattle.sx_json.specs.Strings.{IsPlain, IsShortEscape, IsHexDigit, UnitAt, StringAt, closing, plain, short, unicode}
+use Rattle.sx_tree.proofs.NumberTexts.{ascii_then}
+use Rattle.sx_model.specs.Canonical.{lower_hex_digit, escaped, string_text}
+use Rattle.sx_model.specs.Strings.{IsPlain, IsShortEscape, IsHexDigit, UnitAt, StringAt, closing, plain, short, unicode}
 
 escaped_plain : (byte : ℕ) → IsPlain byte → escaped byte ≡ byte ∷ []
 escaped_plain byte p =
@@ -81,9 +82,6 @@ content_spelled [] after = closing after
 content_spelled (byte ∷ bytes) after =
     subst (λ l. StringAt l (byte ∷ bytes) after) (sym (append_assoc (escaped byte) (flat_map escaped bytes) (34 ∷ after)))
     (one_byte byte (flat_map escaped bytes ++ 34 ∷ after) bytes after (written byte) (content_spelled bytes after))
-
-pub ascii_then : (byte : ℕ) (bytes : List ℕ) → byte < 128 → IsUtf8 bytes → IsUtf8 (byte ∷ bytes)
-ascii_then byte bytes small u = IsUtf8-append (byte ∷ []) bytes (subst IsUtf8 (encode_ascii byte small) (IsUtf8-encode byte (low_scalar byte (omega arith)))) u
 
 abbrev are_ascii : List ℕ → Bool
 are_ascii [] = true

@@ -2,10 +2,10 @@
 use Rattle.std.specs.Prelude.{ℕ, zero, suc, ◌≡◌, ◌+◌, ◌⊎◌, List, [], ◌∷◌, ◌++◌, length, reverse, Contains, IsUtf8}
 use Rattle.sx_tree.specs.Names.{AreDistinct, names_of}
 use Rattle.sx_tree.specs.Value.{Value, Values, Fields}
-use Rattle.sx_json.specs.Grammar.{BeginsOther, ElementsAt, MoreElementsAt, MembersAt, MoreMembersAt, ValueAt, NameThen, names_in}
-use Rattle.sx_json.specs.StringFaults.{unexpected}
-use Rattle.sx_json.specs.Faults.{Next, WholeAt, CommaFault, ElementsFault, MembersFault, ValueFault}
-use Rattle.sx_json.specs.declared.fault.JsonFault.{JsonFault}
+use Rattle.sx_model.specs.Grammar.{BeginsOther, ElementsAt, MoreElementsAt, MembersAt, MoreMembersAt, ValueAt, NameThen, names_in}
+use Rattle.sx_model.specs.StringFaults.{unexpected}
+use Rattle.sx_model.specs.Faults.{Next, WholeAt, CommaFault, ElementsFault, MembersFault, ValueFault}
+use Rattle.sx_tree.specs.declared.json_fault.JsonFault.{JsonFault}
 use Rattle.sx_json.specs.declared.reader.Frame.{Frame}
 use Rattle.sx_json.specs.declared.reader.Frame.TheVariants.{Array, Member}
 use Rattle.sx_json.specs.declared.reader.Turn.{Turn}

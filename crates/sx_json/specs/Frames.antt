@@ -4,7 +4,7 @@ use Rattle.std.specs.Prelude.{ℕ, zero, suc, ◌≡◌, ◌+◌, ◌<◌, ◌�
 use Rattle.sx_tree.specs.declared.json.Scalar.{Scalar}
 use Rattle.sx_tree.specs.Names.{AreDistinct}
 use Rattle.sx_tree.specs.Value.{Value, scalar, array, object, Values, no_values, value_then, Fields, no_fields, field_then, value_of, values_of, fields_of}
-use Rattle.sx_json.specs.Grammar.{AreBlanks, IsSolid, BeginsOther, Led, NameThen, ValueAt, ElementsAt, MoreElementsAt, MembersAt, MoreMembersAt, names_in}
+use Rattle.sx_model.specs.Grammar.{AreBlanks, IsSolid, BeginsOther, Led, NameThen, ValueAt, ElementsAt, MoreElementsAt, MembersAt, MoreMembersAt, names_in}
 use Rattle.sx_json.specs.declared.reader.Frame.{Frame}
 use Rattle.sx_json.specs.declared.reader.Frame.TheVariants.{Array, Member}
 use Rattle.sx_json.specs.declared.reader.Turn.{Turn}

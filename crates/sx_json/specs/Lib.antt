@@ -1,12 +1,5 @@
-pub mod Canonical
-pub mod Strings
 pub mod Reading
 pub mod Piece
-pub mod Grammar
 pub mod Frames
 pub mod Outcome
-pub mod StringFaults
-pub mod Faults
 pub mod FaultFrames
-pub mod Front
-pub mod Limits

@@ -1,6 +1,6 @@
 -- How a string goes on by one piece.
 use Rattle.std.specs.Prelude.{ℕ, ◌≡◌, ◌<◌, List, ◌∷◌, ◌++◌, length}
-use Rattle.sx_json.specs.StringFaults.{PieceAt}
+use Rattle.sx_model.specs.StringFaults.{PieceAt}
 use Rattle.sx_json.specs.declared.strings.Piece.{Piece}
 use Rattle.sx_json.specs.declared.strings.Piece.TheVariants.{Closed, More}
 

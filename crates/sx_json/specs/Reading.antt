@@ -1,8 +1,8 @@
 -- What a reading of strings found: for the reader's own functions.
 use Rattle.std.specs.Prelude.{ℕ, ◌≡◌, ◌⊎◌, List}
-use Rattle.sx_json.specs.declared.fault.JsonFault.{JsonFault}
-use Rattle.sx_json.specs.declared.fault.JsonFault.TheVariants.{BadByte, TooDeep, DuplicateName, LoneSurrogate, NumberTooLong, StringTooLong, Ended, OutOfMemory}
-use Rattle.sx_json.specs.Strings.{TextAt}
+use Rattle.sx_tree.specs.declared.json_fault.JsonFault.{JsonFault}
+use Rattle.sx_tree.specs.declared.json_fault.JsonFault.TheVariants.{BadByte, TooDeep, DuplicateName, LoneSurrogate, NumberTooLong, StringTooLong, Ended, OutOfMemory}
+use Rattle.sx_model.specs.Strings.{TextAt}
 
 -- The text and the rest are the only ones.
 abbrev pub ReadsText : List ℕ → List ℕ → List ℕ → Type 0

@@ -1,9 +1,9 @@
 //! Reads a string at the front of a text.
 ghost use Rattle.std.specs.Prelude.{◌≡◌, ℕ, List, IfErr, IfOk, IsUtf8, MatchResult, length};
-ghost use Rattle.sx_json.specs.Front.{IsStringFront, NoStringFront};
+ghost use Rattle.sx_model.specs.Front.{IsStringFront, NoStringFront};
 ghost use Rattle.std.specs.Str.{IsValidUpTo};
 ghost use Rattle.sx_json.specs.Reading.{Refuses, UnlessMemory};
-ghost use Rattle.sx_json.specs.StringFaults.{FrontFault, QuoteFault};
+ghost use Rattle.sx_model.specs.StringFaults.{FrontFault, QuoteFault};
 
 use crate::fault::{JsonFault, at_cut};
 use crate::scalars::{behind, unexpected};

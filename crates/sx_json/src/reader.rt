@@ -4,10 +4,10 @@ ghost use Rattle.std.specs.Str.{IsValidUpTo};
 ghost use Rattle.sx_tree.specs.Names.{AreDistinct, names_of};
 ghost use Rattle.sx_tree.specs.Value.{Value, value_of};
 ghost use Rattle.sx_json.specs.Frames.{Follows, HasRoom, Steps};
-ghost use Rattle.sx_json.specs.Grammar.{BeginsOther, IsSolid, Spells};
-ghost use Rattle.sx_json.specs.Faults.{Faults, TextFault};
+ghost use Rattle.sx_model.specs.Grammar.{BeginsOther, IsSolid, Spells};
+ghost use Rattle.sx_model.specs.Faults.{Faults, TextFault};
 ghost use Rattle.sx_json.specs.FaultFrames.{FollowsFault, GoesOn};
-ghost use Rattle.sx_json.specs.declared.fault.JsonFault.TheVariants.{OutOfMemory};
+ghost use Rattle.sx_tree.specs.declared.json_fault.JsonFault.TheVariants.{OutOfMemory};
 ghost use Rattle.sx_json.specs.Outcome.{IsOutcome, Reads};
 ghost use Rattle.sx_json.specs.Reading.{Refuses, UnlessMemory};
 

@@ -1,11 +1,11 @@
 //! Reads a scalar: a string, a number or a literal name (RFC 8259 sections 3, 6 and 7).
 ghost use Rattle.std.specs.Prelude.{◌≡◌, ◌≢◌, ◌≤◌, ◌++◌, ◌∷◌, ◌↔◌, ℕ, List, IfErr, IfOk, IsTrue, IsUtf8, MatchOption, length};
 ghost use Rattle.sx_json.specs.Frames.{BeginsScalar, ReadsScalar};
-ghost use Rattle.sx_json.specs.Grammar.{BeginsNumberAt, BeginsOther, IsBlank, IsSolid, Skips};
+ghost use Rattle.sx_model.specs.Grammar.{BeginsNumberAt, BeginsOther, IsBlank, IsSolid, Skips};
 ghost use Rattle.sx_json.specs.Reading.{Refuses, UnlessMemory};
-ghost use Rattle.sx_json.specs.Faults.{NumberFault, ScalarFault, WholeAt, WordFault};
+ghost use Rattle.sx_model.specs.Faults.{NumberFault, ScalarFault, WholeAt, WordFault};
 ghost use Rattle.sx_tree.specs.Value.{scalar};
-ghost use Rattle.sx_json.specs.StringFaults.{unexpected};
+ghost use Rattle.sx_model.specs.StringFaults.{unexpected};
 
 use crate::fault::JsonFault;
 use crate::strings::{place, string_at};

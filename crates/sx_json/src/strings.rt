@@ -1,9 +1,10 @@
 //! Reads a string behind its opening quote (RFC 8259 section 7).
 ghost use Rattle.std.specs.Prelude.{◌≡◌, ◌≢◌, ◌≤◌, ◌<◌, ◌-◌, ◌⊎◌, ℕ, [], ◌∷◌, ◌++◌, List, IfOk, IfErr, IfSome, MatchOption, OnOk, OnErr, IsUtf8, encode_utf8, length};
-ghost use Rattle.sx_json.specs.Strings.{DigitAt, LowAt, NoDigit, UnitAt, IsShortEscape, IsHexDigit, IsHighSurrogate, IsLowSurrogate, IsText, pair_char};
+ghost use Rattle.sx_model.specs.Strings.{DigitAt, LowAt, NoDigit, UnitAt, IsShortEscape, IsHexDigit, IsHighSurrogate, IsLowSurrogate, pair_char};
+ghost use Rattle.sx_tree.specs.Text.{IsText};
 ghost use Rattle.sx_json.specs.Piece.{IsPiece};
-ghost use Rattle.sx_json.specs.StringFaults.{unexpected, DigitsFault, EscapeAt, EscapeFault, LowEscapeFault, LowFault, PieceFault, StringFault, UnicodeAt, UnicodeFault};
-ghost use Rattle.sx_json.specs.declared.fault.JsonFault.TheVariants.{LoneSurrogate};
+ghost use Rattle.sx_model.specs.StringFaults.{unexpected, DigitsFault, EscapeAt, EscapeFault, LowEscapeFault, LowFault, PieceFault, StringFault, UnicodeAt, UnicodeFault};
+ghost use Rattle.sx_tree.specs.declared.json_fault.JsonFault.TheVariants.{LoneSurrogate};
 ghost use Rattle.sx_json.specs.Reading.{ReadsText, Refuses, UnlessMemory};
 
 use crate::fault::JsonFault;

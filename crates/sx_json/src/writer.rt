@@ -1,9 +1,9 @@
 //! Writes the canonical text of a value.
 ghost use Rattle.std.specs.Prelude.{◌≡◌, ◌<◌, ◌≤◌, ◌++◌, OnErr, OnOk};
 ghost use Rattle.sx_tree.specs.Value.{object, value_of, values_of, fields_of, depth};
-ghost use Rattle.sx_json.specs.Canonical.{comma_before, escaped, lower_hex_digit, string_text, scalar_text, text, elements_text, members_text};
-ghost use Rattle.sx_json.specs.Grammar.{Spells};
-ghost use Rattle.sx_json.specs.Limits.{ScalarKeepsLimits, KeepsLimits, ElementsKeepLimits};
+ghost use Rattle.sx_model.specs.Canonical.{comma_before, escaped, lower_hex_digit, string_text, scalar_text, text, elements_text, members_text};
+ghost use Rattle.sx_model.specs.Grammar.{Spells};
+ghost use Rattle.sx_model.specs.Limits.{ScalarKeepsLimits, KeepsLimits, ElementsKeepLimits};
 
 use std::alloc::{AllocError, Global};
 use sx_tree::bytes::Bytes;

@@ -4,7 +4,7 @@ use Rattle.std.specs.Int.{to_be_bytes, cast_unsigned, w64}
 use Rattle.sx_bytes.specs.declared.damage.Damage.{Damage}
 use Rattle.sx_model.specs.Commit.{first_time}
 use Rattle.sx_model.specs.Edit.{number_limit}
-use Rattle.sx_model.specs.Value.{IsLiteral}
+use Rattle.sx_tree.specs.Number.{IsLiteral}
 use Rattle.sx_layout.specs.Group.{Group, AreGroups, Holds, head_bytes, group_limit, opened, end_of, last_time, last_next}
 
 -- a body is nothing, or the text of a value

@@ -1,4 +1,11 @@
+pub mod Canonical
 pub mod Commit
 pub mod Edit
+pub mod Faults
+pub mod Front
+pub mod Grammar
+pub mod Limits
 pub mod State
+pub mod StringFaults
+pub mod Strings
 pub mod Value

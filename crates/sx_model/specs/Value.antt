@@ -1,14 +1,10 @@
 -- Values of JSON (RFC 8259).
-use Rattle.std.specs.Prelude.{ℕ, ◌≤◌, List, length}
-use Rattle.sx_tree.specs.Number.{IsNumber}
+use Rattle.std.specs.Prelude.{ℕ, List}
+use Rattle.sx_tree.specs.Number.{IsLiteral}
 
 pub data Value : Type 0 where
   -- a number, by its literal, which is kept as it was written
   number : List ℕ → Value
-
--- A literal is a number of RFC 8259, section 6, of at most 64 bytes.
-abbrev pub IsLiteral : List ℕ → Type 0
-IsLiteral literal = IsNumber literal × (length literal ≤ 64)
 
 -- the value is within the limits
 abbrev pub IsValue : Value → Type 0

@@ -66,7 +66,7 @@ path-same a b e =
 pub path-fits : (r : PathRecord) → IsPath r → Fit (path_fields r)
 path-fits r is =
     let parent : r.parent < 1_073_741_824 = r.parent_fits in
-    record { fit_parent = omega arith; fit_count = r.count_fits; fit_name = omega (arith, is.short) }
+    record { fit_parent = omega arith; fit_count = r.count_fits; fit_name = omega (arith, is.1) }
 
 pub path-one_spelling : (a b : PathRecord) (x y : List ℕ) → IsPath a → IsPath b → path_bytes (path_fields a) ++ x ≡ path_bytes (path_fields b) ++ y → (a ≡ b) × (x ≡ y)
 path-one_spelling a b x y a_is b_is e =
@@ -222,7 +222,7 @@ node-fits r is =
       fit_descendants = r.descendants_fits;
       fit_hash = r.hash_fits;
       fit_path = omega arith;
-      fit_label = omega (arith, is.short);
+      fit_label = omega (arith, is.1);
     }
 
 front_node-again : (f : NodeFields) (rest : List ℕ) → FitNode f → front_node (node_bytes f ++ rest) ≡ Some (f, rest)

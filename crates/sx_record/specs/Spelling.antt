@@ -1,17 +1,13 @@
 -- The one spelling of each record of a node and of a path.
-use Rattle.std.specs.Prelude.{ℕ, ◌≤◌, List, [], ◌∷◌, ◌++◌, length, Option, Some, None, IsUtf8}
+use Rattle.std.specs.Prelude.{ℕ, List, [], ◌∷◌, ◌++◌, length, Option, Some, None}
 use Rattle.std.specs.Int.{w32, w128, to_be_bytes}
+use Rattle.sx_tree.specs.Text.{IsText}
 use Rattle.sx_tree.specs.declared.record.Kind.{Kind}
 use Rattle.sx_tree.specs.declared.record.Kind.TheVariants.{Document, Object, Array, Key, Str, Number, Bool, Null}
 use Rattle.sx_tree.specs.declared.record.Step.{Step}
 use Rattle.sx_tree.specs.declared.record.Step.TheVariants.{Top, Item, Name}
 use Rattle.sx_tree.specs.declared.record.NodeRecord.{NodeRecord}
 use Rattle.sx_tree.specs.declared.record.PathRecord.{PathRecord}
-
--- UTF-8 within the limit of a text
-pub record IsText (text : List ℕ) : Type 0 where
-  pub utf8 : IsUtf8 text
-  pub short : length text ≤ 1_048_576
 
 -- the length in four bytes, and the bytes
 abbrev pub text_bytes : List ℕ → List ℕ

@@ -4,7 +4,8 @@ ghost use Rattle.std.specs.Option.{option_map};
 ghost use Rattle.sx_bytes.specs.Front.{Gives};
 ghost use Rattle.sx_tree.specs.declared.record.PathRecord.{PathRecord};
 ghost use Rattle.sx_tree.specs.declared.record.Step.{Step};
-ghost use Rattle.sx_record.specs.Spelling.{IsPath, IsText, path_bytes, path_fields, step_byte, step_name};
+ghost use Rattle.sx_tree.specs.Text.{IsText};
+ghost use Rattle.sx_record.specs.Spelling.{IsPath, path_bytes, path_fields, step_byte, step_name};
 ghost use Rattle.sx_record.specs.Reading.{front_path};
 ghost use Rattle.sx_record.specs.Given.{given_path};
 

@@ -2,7 +2,8 @@
 ghost use Rattle.std.specs.Prelude.{◌≡◌, ◌++◌, ◌<◌, ◌^◌, length, take, IfOk, IfNone, IfSome, OnOk};
 ghost use Rattle.std.specs.Option.{option_copied};
 ghost use Rattle.sx_bytes.specs.Front.{Gives};
-ghost use Rattle.sx_record.specs.Spelling.{IsText, text_bytes};
+ghost use Rattle.sx_tree.specs.Text.{IsText};
+ghost use Rattle.sx_record.specs.Spelling.{text_bytes};
 ghost use Rattle.sx_record.specs.Reading.{front_text};
 
 use std::alloc::{AllocError, Global};

@@ -3,7 +3,7 @@ use Rattle.std.proofs.Common.{◌≡◌, ◌∙◌, ℕ, ℤ, List, [], ◌∷�
 use Rattle.std.proofs.lemmas.Int.{ints}
 use Rattle.std.specs.Int.{int_max}
 use Rattle.std.specs.Prelude.{◌≤ℤ◌, ◌≤◌, int_lt, cond, T}
-use Rattle.sx_tree.specs.Number.{IsNumber}
+use Rattle.sx_tree.specs.Number.{IsLiteral}
 use lib.Signed.{lt_z_yes}
 use Rattle.std.specs.Bool.{MatchBool}
 use Rattle.sx_model.specs.Commit.{Commit, AreLegal, IsLegal, replay, first_time, last_time}
@@ -60,8 +60,7 @@ next_legal course moment legal fits =
     (max_fits moment (last_time first_time course.commits) fits last) (max_later moment (last_time first_time course.commits)) legal.edits
 
 spelt_edit : (line : List ℕ) (value : Value) → Spells line (edit (load value)) → IsEdit (load value)
-spelt_edit line (number literal) spells =
-    (subst (λ (text : List ℕ). IsNumber text) spells.2.0 spells.2.1, subst (λ (text : List ℕ). length text ≤ 64) spells.2.0 spells.2.2)
+spelt_edit line (number literal) spells = subst IsLiteral spells.2.0 spells.2.1
 
 -- what holds of a course and of what goes on from it
 abbrev IsNext : Course → Course → Type 0

@@ -1,9 +1,9 @@
 -- The commands, and how a line spells them.
-use Rattle.std.specs.Prelude.{ℕ, ◌≡◌, ◌<◌, ◌≤◌, ◌^◌, List, ◌++◌, length, codes}
+use Rattle.std.specs.Prelude.{ℕ, ◌≡◌, ◌<◌, ◌^◌, List, ◌++◌, codes}
 use Rattle.std.specs.Fmt.{decimal}
 use Rattle.sx_model.specs.Edit.{Edit, load}
 use Rattle.sx_model.specs.Value.{Value, number}
-use Rattle.sx_tree.specs.Number.{IsNumber}
+use Rattle.sx_tree.specs.Number.{IsLiteral}
 
 pub data Command : Type 0 where
   edit : Edit → Command
@@ -15,7 +15,7 @@ pub data Command : Type 0 where
 
 -- a number as it stands in the text, of at most 64 bytes (RFC 8259, section 6)
 abbrev pub SpellsValue : List ℕ → Value → Type 0
-SpellsValue text (number literal) = (text ≡ literal) × IsNumber text × (length text ≤ 64)
+SpellsValue text (number literal) = (text ≡ literal) × IsLiteral text
 
 -- Exactly one space stands between the words. Revisions are below 2^32, without sign or leading zero.
 abbrev pub Spells : List ℕ → Command → Type 0

@@ -1,6 +1,7 @@
 pub mod Number
 pub mod NumberState
 pub mod LiteralFault
+pub mod Text
 pub mod TextFault
 pub mod Names
 pub mod MemberFault

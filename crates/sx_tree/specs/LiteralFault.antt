@@ -1,6 +1,6 @@
 -- When each fault of a literal comes.
 use Rattle.std.specs.Prelude.{ℕ, ◌≡◌, ◌≤◌, ◌<◌, List, length}
-use Rattle.sx_tree.specs.Number.{IsNumber, IsLongestFront}
+use Rattle.sx_tree.specs.Number.{IsNumber, IsLiteral, IsLongestFront}
 use Rattle.sx_tree.specs.declared.literal.LiteralFault.{LiteralFault}
 use Rattle.sx_tree.specs.declared.literal.LiteralFault.TheVariants.{TooLong, Bad, OutOfMemory}
 
@@ -9,4 +9,4 @@ use Rattle.sx_tree.specs.declared.literal.LiteralFault.TheVariants.{TooLong, Bad
 abbrev pub ExplainsLiteral : List ℕ → LiteralFault → Type 0
 ExplainsLiteral bytes (TooLong count) = (64 < length bytes) × (count ≡ length bytes)
 ExplainsLiteral bytes (Bad place) = (length bytes ≤ 64) × (¬ IsNumber bytes) × IsLongestFront bytes place
-ExplainsLiteral bytes OutOfMemory = (length bytes ≤ 64) × IsNumber bytes
+ExplainsLiteral bytes OutOfMemory = IsLiteral bytes

@@ -50,6 +50,10 @@ pub record IsNumber (bytes : List ℕ) : Type 0 where
   pub is_exp : IsExp exp
   pub whole : bytes ≡ minus ++ (int ++ (frac ++ exp))
 
+-- a number within the limits
+abbrev pub IsLiteral : List ℕ → Type 0
+IsLiteral literal = IsNumber literal × (length literal ≤ 64)
+
 -- some number begins with these bytes
 abbrev pub BeginsNumber : List ℕ → Type 0
 BeginsNumber front = (rest : List ℕ) × IsNumber (front ++ rest)

@@ -1,7 +1,7 @@
 -- What holds of the records of nodes.
-use Rattle.std.specs.Prelude.{ℕ, ◌≡◌, ◌<◌, ◌≤◌, ◌⊎◌, List, [], ◌∷◌, length, Option}
+use Rattle.std.specs.Prelude.{ℕ, ◌≡◌, ◌<◌, ◌⊎◌, List, [], ◌∷◌, Option}
 use Rattle.std.specs.Option.{ForSome}
-use Rattle.sx_tree.specs.Number.{IsNumber}
+use Rattle.sx_tree.specs.Number.{IsLiteral}
 use Rattle.sx_tree.specs.declared.record.Kind.{Kind}
 use Rattle.sx_tree.specs.declared.record.Kind.TheVariants.{Document, Object, Array, Key, Str, Number, Bool, Null}
 
@@ -16,6 +16,6 @@ IsLabel Object label = label ≡ []
 IsLabel Array label = label ≡ []
 IsLabel Key label = Unit {0}
 IsLabel Str label = Unit {0}
-IsLabel Number label = IsNumber label × (length label ≤ 64)
+IsLabel Number label = IsLiteral label
 IsLabel Bool label = (label ≡ 0 ∷ []) ⊎ (label ≡ 1 ∷ [])
 IsLabel Null label = label ≡ []

@@ -1,6 +1,7 @@
 -- When each fault of a text comes.
-use Rattle.std.specs.Prelude.{ℕ, ◌≡◌, ◌≤◌, ◌<◌, List, length, IsUtf8}
+use Rattle.std.specs.Prelude.{ℕ, ◌≡◌, ◌<◌, List, length, IsUtf8}
 use Rattle.std.specs.Str.Lossy.{utf8_valid_len}
+use Rattle.sx_tree.specs.Text.{IsText}
 use Rattle.sx_tree.specs.declared.text.TextFault.{TextFault}
 use Rattle.sx_tree.specs.declared.text.TextFault.TheVariants.{NotUtf8, TooLong, OutOfMemory}
 
@@ -9,4 +10,4 @@ use Rattle.sx_tree.specs.declared.text.TextFault.TheVariants.{NotUtf8, TooLong, 
 abbrev pub ExplainsText : List ℕ → TextFault → Type 0
 ExplainsText bytes (NotUtf8 place) = (¬ IsUtf8 bytes) × (place ≡ utf8_valid_len bytes)
 ExplainsText bytes (TooLong count) = IsUtf8 bytes × (1_048_576 < length bytes) × (count ≡ length bytes)
-ExplainsText bytes OutOfMemory = IsUtf8 bytes × (length bytes ≤ 1_048_576)
+ExplainsText bytes OutOfMemory = IsText bytes

@@ -4,6 +4,7 @@
 pub mod bytes;
 pub mod edit;
 pub mod json;
+pub mod json_fault;
 pub mod literal;
 pub mod member_list;
 mod names;

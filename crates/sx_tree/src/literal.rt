@@ -3,6 +3,7 @@ ghost use Rattle.std.specs.Prelude.{◌≡◌, ◌≤◌, IfOk, IfErr, length};
 ghost use Rattle.sx_tree.specs.Number.{IsNumber};
 
 use crate::number::number_front;
+use crate::text::{Text, TextFault};
 use std::alloc::{AllocError, Global};
 use std::marker::Model;
 use thiserror::Error;
@@ -79,6 +80,18 @@ impl Literal {
         ensures short { length self.now ≤ 64 }
     {
         self.bytes.as_slice()
+    }
+
+    /// The literal as a text.
+    pub fn to_text(&self, alloc: Global) -> Result<Text, AllocError>
+        ensures { IfOk result (λ text. text ≡ self.now) }
+    {
+        match Text::new(alloc, self.as_bytes()) {
+            Ok(text) => Ok(text),
+            Err(TextFault::OutOfMemory) => Err(AllocError),
+            Err(TextFault::NotUtf8 { .. }) => unreachable!(),
+            Err(TextFault::TooLong { .. }) => unreachable!(),
+        }
     }
 
     /// An equal literal.

@@ -1,5 +1,5 @@
-use Rattle.sx_json.specs.Front.{NoStringFront}
-use Rattle.sx_json.specs.StringFaults.{FrontFault}
+use Rattle.sx_model.specs.Front.{NoStringFront}
+use Rattle.sx_model.specs.StringFaults.{FrontFault}
 use Rattle.sx_json.proofs.Fronts.{front_not_fault, front_one}
 use Rattle.sx_json.proofs.OneFault.{front_faults_one}
 use Rattle.sx_json.proofs.Results.{if_ok_map, no_other, refused_by}

@@ -1,5 +1,5 @@
 use Rattle.std.proofs.Common.{arith, inr, length}
-use Rattle.sx_json.specs.StringFaults.{QuoteFault, QuotedFault}
+use Rattle.sx_model.specs.StringFaults.{QuoteFault, QuotedFault}
 use Rattle.sx_json.proofs.Results.{unless_map}
 use Rattle.sx_json.proofs.StringTexts.{quoted_fault, utf8_behind}
 use Rattle.sx_json.proofs.front.string_front.Goals as goal

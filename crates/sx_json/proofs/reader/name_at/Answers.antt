@@ -1,7 +1,7 @@
 use Rattle.std.proofs.Common.{Contains, inl, inr, refl, arith}
 use Rattle.sx_tree.specs.Names.{names_of}
 use Rattle.sx_json.specs.FaultFrames.{FollowsFault}
-use Rattle.sx_json.specs.StringFaults.{QuotedFault}
+use Rattle.sx_model.specs.StringFaults.{QuotedFault}
 use Rattle.sx_json.specs.declared.reader.Turn.TheVariants as turn
 use Rattle.sx_json.proofs.FaultScalars.{skips_keep}
 use Rattle.sx_json.proofs.FaultSteps.{fresh_name, keeps_name, wrong_name}

@@ -1,8 +1,8 @@
 use Rattle.std.proofs.Common.{◌≡◌, inl, length, IsUtf8}
-use Rattle.sx_json.specs.Faults.{Faults, TextFault}
+use Rattle.sx_model.specs.Faults.{Faults, TextFault}
 use Rattle.sx_json.proofs.OneFault.{faults_one, spells_no_fault}
 use Rattle.sx_tree.specs.Value.{Value, value_of}
-use Rattle.sx_json.specs.Grammar.{Spells}
+use Rattle.sx_model.specs.Grammar.{Spells}
 use Rattle.sx_json.specs.Outcome.{Reads}
 use Rattle.sx_json.proofs.Results.{if_ok_map, no_other, refused_by, unless_map}
 use Rattle.sx_json.proofs.Texts.{Spells-Follows, Follows-Spells}

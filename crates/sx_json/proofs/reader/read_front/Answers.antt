@@ -1,5 +1,5 @@
 use Rattle.std.proofs.Common.{length}
-use Rattle.sx_json.specs.Faults.{TextFault}
+use Rattle.sx_model.specs.Faults.{TextFault}
 use Rattle.sx_json.specs.FaultFrames.{FollowsFault}
 use Rattle.sx_json.proofs.Results.{unless_map}
 use Rattle.sx_json.proofs.FaultScalars.{skips_keep}

@@ -2,7 +2,7 @@ use Rattle.std.proofs.Common.{◌<◌, ◌≤◌, inl, inr, length, arith}
 use Rattle.sx_json.proofs.Results.{unless_map}
 use Rattle.sx_json.proofs.StringTexts.{utf8_behind}
 use Rattle.sx_json.proofs.FaultSteps.{keeps_array, keeps_object, keeps_scalar, wrong_deep, wrong_scalar}
-use Rattle.sx_json.specs.Faults.{ScalarFault}
+use Rattle.sx_model.specs.Faults.{ScalarFault}
 use Rattle.sx_json.specs.FaultFrames.{FollowsFault}
 use Rattle.sx_json.specs.declared.reader.Turn.TheVariants as turn
 use Rattle.sx_json.proofs.Steps.{step_array, step_object}

@@ -1,8 +1,8 @@
 use Rattle.std.proofs.Common.{◌≡◌, ◌∙◌, ap, inl, inr, sym, take, true, rules}
 use Rattle.std.proofs.lemmas.List.{take-append-drop}
 use Rattle.sx_tree.specs.Number.{IsNumber}
-use Rattle.sx_json.specs.StringFaults.{unexpected}
-use Rattle.sx_json.specs.declared.fault.JsonFault.TheVariants.{NumberTooLong}
+use Rattle.sx_model.specs.StringFaults.{unexpected}
+use Rattle.sx_tree.specs.declared.json_fault.JsonFault.TheVariants.{NumberTooLong}
 use Rattle.sx_json.proofs.FaultScalars.{longest_of_all, number_long, number_ends, number_keeps}
 use Rattle.sx_json.proofs.ScalarReads.{number_fits, number_again, number_is_whole}
 use Rattle.sx_json.proofs.scalars.number_at.Goals as goal
@@ -45,7 +45,7 @@ returns-in-Ok-clause-whole c = λ room.
     let literal : c.in-Ok.literal ≡ take len c.args.bytes.now = c.in-Ok.ensures.same ∙ c.split_at.ensures.front in
     let longest = longest_of_all c.args.bytes.now c.min-most.result len c.min-most.ensures front.ensures.longest c.if-front-gt-LITERAL_BYTES.false in
     rw (literal, c.split_at.ensures.back)
-    ((rw c.split_at.ensures.front at c.in-Ok.ensures.number, rw c.split_at.ensures.front at c.in-Ok.ensures.short, sym (take-append-drop len c.args.bytes.now)), number_ends c.args.bytes.now len longest)
+    (((rw c.split_at.ensures.front at c.in-Ok.ensures.number, rw c.split_at.ensures.front at c.in-Ok.ensures.short), sym (take-append-drop len c.args.bytes.now)), number_ends c.args.bytes.now len longest)
 
 pub returns-in-Err-Bad-clause-fault : goal.returns-in-Err-Bad-clause-fault
 returns-in-Err-Bad-clause-fault c =

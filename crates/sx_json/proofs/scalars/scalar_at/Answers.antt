@@ -1,6 +1,6 @@
 use Rattle.std.proofs.Common.{◌≡◌, ◌∙◌, ◌∷◌, ap, subst, inl, inr, arith, IsUtf8}
-use Rattle.sx_json.specs.Faults.{ScalarFault}
-use Rattle.sx_json.specs.StringFaults.{QuotedFault}
+use Rattle.sx_model.specs.Faults.{ScalarFault}
+use Rattle.sx_model.specs.StringFaults.{QuotedFault}
 use Rattle.sx_json.proofs.FaultScalars.{true_keeps, false_keeps, null_keeps}
 use Rattle.sx_json.proofs.StringTexts.{quoted_fault, utf8_behind}
 use Rattle.std.proofs.lemmas.Result.{err_from_is_err_and}

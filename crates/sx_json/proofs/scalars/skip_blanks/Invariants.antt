@@ -1,5 +1,5 @@
 use Rattle.std.proofs.Common.{length}
-use Rattle.sx_json.specs.Grammar.{Skips}
+use Rattle.sx_model.specs.Grammar.{Skips}
 use Rattle.sx_json.proofs.scalars.skip_blanks.Given as goal
 
 abbrev pub invariant-loop-byte : goal.invariant-loop-byte

@@ -1,5 +1,5 @@
 use Rattle.std.proofs.Common.{◌≡◌, sym, subst, ◌∙◌, ◌∷◌}
-use Rattle.sx_json.specs.Strings.{IsHexDigit}
+use Rattle.sx_model.specs.Strings.{IsHexDigit}
 use Rattle.sx_json.proofs.strings.digit_at.Goals as goal
 
 pub returns-in-None-clause-err : goal.returns-in-None-clause-err

@@ -1,6 +1,6 @@
 use Rattle.std.proofs.Common.{◌≡◌, ◌∷◌, ◌∙◌, inl, inr, refl, sym, subst}
 use Rattle.std.proofs.lemmas.Result.{err_from_is_err_and}
-use Rattle.sx_json.specs.StringFaults.{LowFault}
+use Rattle.sx_model.specs.StringFaults.{LowFault}
 use Rattle.sx_json.proofs.strings.low_at.Goals as goal
 
 pub returns-clause-ok : goal.returns-clause-ok

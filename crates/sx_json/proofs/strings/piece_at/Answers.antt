@@ -1,6 +1,6 @@
 use Rattle.std.proofs.Common.{◌∷◌, [], inl, refl, sym, subst, arith}
-use Rattle.sx_json.specs.StringFaults.{PieceAt}
-use Rattle.sx_json.specs.Strings.{IsPlain}
+use Rattle.sx_model.specs.StringFaults.{PieceAt}
+use Rattle.sx_model.specs.Strings.{IsPlain}
 use Rattle.sx_json.proofs.strings.piece_at.Goals as goal
 
 pub returns-in_ok-push-in_default-byte-clause-ok : goal.returns-in_ok-push-in_default-byte-clause-ok

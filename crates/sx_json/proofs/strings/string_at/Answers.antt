@@ -1,8 +1,8 @@
 use Rattle.std.proofs.Common.{append_assoc, ◌++◌, ◌≡◌, ◌<◌, ◌+◌, ◌-◌, ap, arith, inl, inr, length, refl, sym, subst, ◌∙◌, IsUtf8}
 use Rattle.std.proofs.lemmas.List.{length-append}
 use Rattle.std.proofs.lemmas.Result.{err_from_is_err_and}
-use Rattle.sx_json.specs.StringFaults.{StringFault, PieceFault, in_piece, too_long, behind}
-use Rattle.sx_json.specs.Strings.{IsText}
+use Rattle.sx_model.specs.StringFaults.{StringFault, PieceFault, in_piece, too_long, behind}
+use Rattle.sx_tree.specs.Text.{IsText}
 use Rattle.sx_json.proofs.Results.{memory_alone, unless_map}
 use Rattle.sx_json.proofs.OneStringFault.{text_read}
 use Rattle.sx_json.proofs.StringShapes.{piece_then}

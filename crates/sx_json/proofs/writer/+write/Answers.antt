@@ -2,8 +2,8 @@ use Rattle.std.proofs.Common.{◌≡◌, ◌<◌, ◌≤◌, arith, take_all, �
 use Rattle.std.proofs.Math.ListN.{length-map}
 use Rattle.sx_tree.specs.Names.{AreDistinct}
 use Rattle.sx_tree.specs.Value.{value_of, fields_of}
-use Rattle.sx_json.specs.Canonical.{comma_before, string_text, text}
-use Rattle.sx_json.specs.Limits.{MembersKeepLimits}
+use Rattle.sx_model.specs.Canonical.{comma_before, string_text, text}
+use Rattle.sx_model.specs.Limits.{MembersKeepLimits}
 use Rattle.sx_json.proofs.MemberTurns.{names_in-fields_of}
 use Rattle.sx_json.proofs.Writing.{elements_text-more, members_text-more, member_at, regrouped, regrouped_member}
 use Rattle.sx_json.proofs.ReadBack.{elements_keep-more, members_keep-more}

@@ -1,7 +1,7 @@
 use Rattle.std.proofs.Common.{◌≡◌, ◌++◌, take}
 use Rattle.sx_tree.specs.Value.{values_of, fields_of}
-use Rattle.sx_json.specs.Canonical.{elements_text, members_text}
-use Rattle.sx_json.specs.Limits.{ElementsKeepLimits, MembersKeepLimits}
+use Rattle.sx_model.specs.Canonical.{elements_text, members_text}
+use Rattle.sx_model.specs.Limits.{ElementsKeepLimits, MembersKeepLimits}
 use Rattle.sx_json.proofs.writer.+write.Given as goal
 
 abbrev pub invariant-write_elements-loop-place : goal.invariant-write_elements-loop-place

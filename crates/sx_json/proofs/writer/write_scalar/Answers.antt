@@ -1,5 +1,5 @@
 use Rattle.sx_json.proofs.ReadBack.{on_ok}
-use Rattle.sx_json.proofs.WrittenNumbers.{number_known}
+use Rattle.sx_tree.proofs.NumberTexts.{number_known}
 use Rattle.sx_json.proofs.writer.write_scalar.Goals as goal
 
 pub returns-in-Number-clause-limits : goal.returns-in-Number-clause-limits

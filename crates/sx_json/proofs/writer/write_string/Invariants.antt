@@ -1,6 +1,6 @@
 use Rattle.std.proofs.Common.{◌≡◌, ◌++◌, take}
 use Rattle.std.specs.List.{flat_map}
-use Rattle.sx_json.specs.Canonical.{escaped}
+use Rattle.sx_model.specs.Canonical.{escaped}
 use Rattle.sx_json.proofs.writer.write_string.Given as goal
 
 abbrev pub invariant-loop-byte : goal.invariant-loop-byte

@@ -1,6 +1,6 @@
 -- A string at the front of a text, whatever follows it.
 use Rattle.std.specs.Prelude.{ℕ, ◌≡◌, ◌+◌, List, ◌∷◌, length}
-use Rattle.sx_json.specs.Strings.{TextAt}
+use Rattle.sx_model.specs.Strings.{TextAt}
 
 -- The first bytes of the text, this many, are a string that stands for the content.
 abbrev pub IsStringFront : List ℕ → List ℕ → ℕ → Type 0

@@ -7,11 +7,11 @@ use Rattle.std.specs.Str.{IsValidUpTo}
 use Rattle.sx_tree.specs.declared.json.Scalar.TheVariants.{Number}
 use Rattle.sx_tree.specs.Number.{IsDigit, IsNumber, BeginsNumber, IsLongestFront}
 use Rattle.sx_tree.specs.Value.{Value, scalar}
-use Rattle.sx_json.specs.Strings.{TextAt}
-use Rattle.sx_json.specs.Grammar.{BeginsNumberAt, IsSolid, BeginsOther, Skips, ValueAt, Spells}
-use Rattle.sx_json.specs.StringFaults.{unexpected, QuotedFault, QuoteFault, cut}
-use Rattle.sx_json.specs.declared.fault.JsonFault.{JsonFault}
-use Rattle.sx_json.specs.declared.fault.JsonFault.TheVariants.{BadByte, TooDeep, DuplicateName, NumberTooLong}
+use Rattle.sx_model.specs.Strings.{TextAt}
+use Rattle.sx_model.specs.Grammar.{BeginsNumberAt, IsSolid, BeginsOther, Skips, ValueAt, Spells}
+use Rattle.sx_model.specs.StringFaults.{unexpected, QuotedFault, QuoteFault, cut}
+use Rattle.sx_tree.specs.declared.json_fault.JsonFault.{JsonFault}
+use Rattle.sx_tree.specs.declared.json_fault.JsonFault.TheVariants.{BadByte, TooDeep, DuplicateName, NumberTooLong}
 
 -- white space, and then, where it ends, what P says
 abbrev pub Next : (List ℕ → Type 0) → List ℕ → Type 0

@@ -4,10 +4,10 @@
 use Rattle.std.specs.Prelude.{ℕ, zero, suc, ◌≡◌, ◌≢◌, ◌≤◌, ◌<◌, ◌+◌, ◌-◌, ◌⊎◌, List, [], ◌∷◌, length, take, IsUtf8, encode_utf8}
 use Rattle.std.specs.Char.{IsScalar}
 use Rattle.std.specs.Str.{IsValidUpTo}
-use Rattle.sx_json.specs.Strings.{IsPlain, IsShortEscape, DigitAt, NoDigit, UnitAt, LowAt, IsHighSurrogate, IsLowSurrogate, pair_char}
-use Rattle.sx_json.specs.Grammar.{BeginsOther}
-use Rattle.sx_json.specs.declared.fault.JsonFault.{JsonFault}
-use Rattle.sx_json.specs.declared.fault.JsonFault.TheVariants.{BadByte, LoneSurrogate, StringTooLong, Ended}
+use Rattle.sx_model.specs.Strings.{IsPlain, IsShortEscape, DigitAt, NoDigit, UnitAt, LowAt, IsHighSurrogate, IsLowSurrogate, pair_char}
+use Rattle.sx_model.specs.Grammar.{BeginsOther}
+use Rattle.sx_tree.specs.declared.json_fault.JsonFault.{JsonFault}
+use Rattle.sx_tree.specs.declared.json_fault.JsonFault.TheVariants.{BadByte, LoneSurrogate, StringTooLong, Ended}
 
 -- No text goes on with the first of these bytes, or the text ends where it would have to go on.
 abbrev pub unexpected : ℕ → List ℕ → JsonFault

@@ -1,12 +1,15 @@
 -- A number is in UTF-8, and whether bytes are one can be told.
-use Rattle.std.proofs.Common.{◌≡◌, ℕ, ◌≤◌, inl, inr, ◌⊎◌, List, [], ◌∷◌, ◌++◌, sym, subst, arith, IsUtf8}
+use Rattle.std.proofs.Common.{◌≡◌, ℕ, ◌≤◌, ◌<◌, inl, inr, ◌⊎◌, List, [], ◌∷◌, ◌++◌, sym, subst, arith, IsUtf8}
 use Rattle.std.proofs.lemmas.Bool.{cases_lt, cases_eq}
-use Rattle.std.proofs.lemmas.Str.{IsUtf8-append, IsUtf8-nil}
+use Rattle.std.proofs.lemmas.Str.{IsUtf8-append, IsUtf8-nil, IsUtf8-encode, encode_ascii}
+use lib.Utf8.{low_scalar}
 use mathlib.Core.Logic.{∥∥₁_elim}
 use Rattle.sx_tree.specs.Number.{IsDigit, AreDigits, AreSomeDigits, IsMinus, IsInt, IsFrac, IsSign, IsExp, IsNumber}
 use Rattle.sx_tree.specs.NumberState.{DigitsThen, FollowsMark, FollowsFraction, FollowsPoint, FollowsInt, FollowsMinus, FollowsStart}
 use Rattle.sx_tree.proofs.NumberStates.{FollowsStart-number, number_of}
-use Rattle.sx_json.proofs.WrittenStrings.{ascii_then}
+
+pub ascii_then : (byte : ℕ) (bytes : List ℕ) → byte < 128 → IsUtf8 bytes → IsUtf8 (byte ∷ bytes)
+ascii_then byte bytes small u = IsUtf8-append (byte ∷ []) bytes (subst IsUtf8 (encode_ascii byte small) (IsUtf8-encode byte (low_scalar byte (omega arith)))) u
 
 digits_utf8 : (digits : List ℕ) → AreDigits digits → IsUtf8 digits
 digits_utf8 [] h = IsUtf8-nil

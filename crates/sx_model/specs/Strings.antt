@@ -1,7 +1,8 @@
 -- Strings of RFC 8259 section 7. Each relation says what stands at the front of the bytes, and what is left
 -- behind it.
-use Rattle.std.specs.Prelude.{ℕ, ◌≡◌, ◌≢◌, ◌≤◌, ◌+◌, ◌-◌, ◌*◌, ◌⊎◌, List, [], ◌∷◌, ◌++◌, length, IsUtf8, encode_utf8}
+use Rattle.std.specs.Prelude.{ℕ, ◌≡◌, ◌≢◌, ◌≤◌, ◌+◌, ◌-◌, ◌*◌, ◌⊎◌, List, [], ◌∷◌, ◌++◌, encode_utf8}
 use Rattle.std.specs.Char.{IsScalar}
+use Rattle.sx_tree.specs.Text.{IsText}
 
 -- unescaped, or a byte of such a character: all but the quote, the backslash and characters below U+0020
 abbrev pub IsPlain : ℕ → Type 0
@@ -65,10 +66,6 @@ pub data StringAt : List ℕ → List ℕ → List ℕ → Type 0 where
       → StringAt (92 ∷ 117 ∷ bytes) (encode_utf8 unit ++ content) left
   pair : (bytes : List ℕ) (high : ℕ) (middle : List ℕ) (low : ℕ) (after content left : List ℕ) → UnitAt bytes high (92 ∷ 117 ∷ middle) → IsHighSurrogate high
       → UnitAt middle low after → IsLowSurrogate low → StringAt after content left → StringAt (92 ∷ 117 ∷ bytes) (encode_utf8 (pair_char high low) ++ content) left
-
--- a text within the limits
-abbrev pub IsText : List ℕ → Type 0
-IsText content = IsUtf8 content × (length content ≤ 1_048_576)
 
 -- Behind an opening quote: a string that stands for a text within the limits. A surrogate escape that is no
 -- part of a pair stands for no character.

@@ -1,12 +1,12 @@
 -- JSON texts of RFC 8259, by cases on the value. Each relation says what stands at the front of the bytes,
 -- and what is left behind it.
-use Rattle.std.specs.Prelude.{ℕ, suc, ◌≡◌, ◌≤◌, ◌⊎◌, List, [], ◌∷◌, ◌++◌, length, true, false, codes, IsUtf8}
+use Rattle.std.specs.Prelude.{ℕ, suc, ◌≡◌, ◌⊎◌, List, [], ◌∷◌, ◌++◌, true, false, codes, IsUtf8}
 use Rattle.sx_tree.specs.declared.json.Scalar.{Scalar}
 use Rattle.sx_tree.specs.declared.json.Scalar.TheVariants.{Str, Number, Bool, Null}
 use Rattle.sx_tree.specs.Names.{AreDistinct}
-use Rattle.sx_tree.specs.Number.{IsDigit, IsNumber}
+use Rattle.sx_tree.specs.Number.{IsDigit, IsLiteral}
 use Rattle.sx_tree.specs.Value.{Value, scalar, array, object, Values, no_values, value_then, Fields, no_fields, field_then}
-use Rattle.sx_json.specs.Strings.{TextAt}
+use Rattle.sx_model.specs.Strings.{TextAt}
 
 -- white space (section 2)
 abbrev pub IsBlank : ℕ → Type 0
@@ -40,7 +40,7 @@ Led P (byte ∷ bytes) = P (byte ∷ bytes) ⊎ (IsBlank byte × Led P bytes)
 -- a string, a number of at most 64 bytes, or a literal name (sections 3, 6 and 7)
 abbrev pub ScalarAt : Scalar → List ℕ → List ℕ → Type 0
 ScalarAt (Str content) bytes left = (inside : List ℕ) × (bytes ≡ 34 ∷ inside) × TextAt inside content left
-ScalarAt (Number literal) bytes left = IsNumber literal × (length literal ≤ 64) × (bytes ≡ literal ++ left)
+ScalarAt (Number literal) bytes left = IsLiteral literal × (bytes ≡ literal ++ left)
 ScalarAt (Bool true) bytes left = bytes ≡ codes "true" ++ left
 ScalarAt (Bool false) bytes left = bytes ≡ codes "false" ++ left
 ScalarAt Null bytes left = bytes ≡ codes "null" ++ left
