@@ -1,13 +1,16 @@
--- The state of a document: what it holds, and which numbers its nodes were given.
-use Rattle.std.specs.Prelude.{ℕ, Option, None}
-use Rattle.sx_model.specs.Value.{Value}
+-- The state of a document.
+use Rattle.std.specs.Prelude.{ℕ, List, []}
+use Rattle.sx_tree.specs.declared.record.Step.{Step}
+use Rattle.sx_model.specs.Tree.{Forest, no_trees, document_with}
 
 pub record State : Type 0 where
-  -- the value below the Document, where there is one
-  pub child : Option Value
+  -- the Document with all below it
+  pub trees : Forest
   -- the number that the next new node takes
   pub next : ℕ
+  -- the paths on which values stand or once stood
+  pub paths : List (List Step)
 
 -- the Document alone, which is node 0
 abbrev pub empty_document : State
-empty_document = record { child = None; next = 1 }
+empty_document = record { trees = document_with no_trees; next = 1; paths = [] }

@@ -11,9 +11,9 @@ use Rattle.sx_tree.specs.declared.record.PathRecord.{PathRecord}
 use Rattle.sx_tree.specs.declared.record.NodeRecord.{NodeRecord}
 use Rattle.sx_tree.specs.declared.record.Kind.{Kind}
 use Rattle.sx_tree.specs.declared.record.Kind.TheVariants.{Document, Object, Array, Key, Str, Number, Bool, Null}
-use Rattle.sx_tree.specs.Record.{IsLink, IsLabel}
+use Rattle.sx_tree.specs.Record.{IsLink, IsLabel, kind_byte}
 use Rattle.sx_record.specs.Same.{HaveSameLinks, HaveSameRest}
-use Rattle.sx_record.specs.Spelling.{text_bytes, PathFields, path_bytes, path_fields, step_byte, step_name, IsPath, NodeFields, node_bytes, node_fields, kind_byte, link_number, IsNode}
+use Rattle.sx_record.specs.Spelling.{text_bytes, PathFields, path_bytes, path_fields, step_byte, step_name, IsPath, NodeFields, node_bytes, node_fields, link_number, IsNode}
 use Rattle.sx_record.specs.Reading.{front_text, front_path, front_node}
 
 abbrev some : {A : Type 0} → A → Option A

@@ -3,9 +3,9 @@ use Rattle.std.specs.Prelude.{ℕ, List, [], ◌∷◌, ◌++◌, length, Option
 use Rattle.std.specs.Int.{w32, w128, to_be_bytes}
 use Rattle.sx_tree.specs.Text.{IsText}
 use Rattle.sx_tree.specs.declared.record.Kind.{Kind}
-use Rattle.sx_tree.specs.declared.record.Kind.TheVariants.{Document, Object, Array, Key, Str, Number, Bool, Null}
 use Rattle.sx_tree.specs.declared.record.Step.{Step}
 use Rattle.sx_tree.specs.declared.record.Step.TheVariants.{Top, Item, Name}
+use Rattle.sx_tree.specs.Record.{kind_byte}
 use Rattle.sx_tree.specs.declared.record.NodeRecord.{NodeRecord}
 use Rattle.sx_tree.specs.declared.record.PathRecord.{PathRecord}
 
@@ -64,16 +64,6 @@ node_bytes f =
     (f.kind ∷ [])
     ++ (to_be_bytes w32 f.parent ++ (to_be_bytes w32 f.left ++ (to_be_bytes w32 f.right ++ (to_be_bytes w32 f.first ++ (to_be_bytes w32 f.last
     ++ (to_be_bytes w32 f.children ++ (to_be_bytes w32 f.descendants ++ (to_be_bytes w128 f.hash ++ (to_be_bytes w32 f.path ++ text_bytes f.label)))))))))
-
-abbrev pub kind_byte : Kind → ℕ
-kind_byte Document = 0
-kind_byte Object = 1
-kind_byte Array = 2
-kind_byte Key = 3
-kind_byte Str = 4
-kind_byte Number = 5
-kind_byte Bool = 6
-kind_byte Null = 7
 
 -- the number of the node, or the greatest number where there is none
 abbrev pub link_number : Option ℕ → ℕ

@@ -3,11 +3,11 @@ ghost use Rattle.std.specs.Prelude.{◌≡◌, ◌≢◌, ◌↔◌, ◌++◌, �
 ghost use Rattle.std.specs.Option.{option_map};
 ghost use Rattle.sx_bytes.specs.Front.{Gives};
 ghost use Rattle.sx_tree.specs.Number.{IsNumber};
-ghost use Rattle.sx_tree.specs.Record.{IsLabel, IsLink};
+ghost use Rattle.sx_tree.specs.Record.{IsLabel, IsLink, kind_byte};
 ghost use Rattle.sx_tree.specs.declared.record.NodeRecord.{NodeRecord};
 ghost use Rattle.sx_tree.specs.declared.record.Kind.{Kind};
 ghost use Rattle.sx_tree.specs.Text.{IsText};
-ghost use Rattle.sx_record.specs.Spelling.{IsNode, kind_byte, link_number, node_bytes, node_fields};
+ghost use Rattle.sx_record.specs.Spelling.{IsNode, link_number, node_bytes, node_fields};
 ghost use Rattle.sx_record.specs.Same.{HaveSameLinks, HaveSameRest};
 ghost use Rattle.sx_record.specs.Reading.{front_node};
 ghost use Rattle.sx_record.specs.Given.{given_node};

@@ -19,3 +19,14 @@ IsLabel Str label = Unit {0}
 IsLabel Number label = IsLiteral label
 IsLabel Bool label = (label ≡ 0 ∷ []) ⊎ (label ≡ 1 ∷ [])
 IsLabel Null label = label ≡ []
+
+-- the byte that stands for a kind
+abbrev pub kind_byte : Kind → ℕ
+kind_byte Document = 0
+kind_byte Object = 1
+kind_byte Array = 2
+kind_byte Key = 3
+kind_byte Str = 4
+kind_byte Number = 5
+kind_byte Bool = 6
+kind_byte Null = 7

@@ -21,17 +21,34 @@ pub enum Place {
 #[derive(Drop)]
 pub enum Edit {
     /// The value takes the place of the document's child, or becomes its child.
-    Load { value: Json },
+    Load {
+        value: Json,
+    },
     /// The value comes to the place. Among the members of an object it comes below a new key of the name.
-    Insert { place: Place, name: Option<Text>, value: Json },
+    Insert {
+        place: Place,
+        name: Option<Text>,
+        value: Json,
+    },
     /// A scalar node keeps its number and has this scalar.
-    SetScalar { node: u32, value: Scalar },
+    SetScalar {
+        node: u32,
+        value: Scalar,
+    },
     /// The value takes the place of the node with all below it.
-    Replace { node: u32, value: Json },
+    Replace {
+        node: u32,
+        value: Json,
+    },
     /// A key has this name.
-    Rename { node: u32, name: Text },
+    Rename {
+        node: u32,
+        name: Text,
+    },
     /// The node goes with all below it.
-    Remove { node: u32 },
+    Remove {
+        node: u32,
+    },
 }
 
 /// What an accepted edit did to the numbers of nodes.
