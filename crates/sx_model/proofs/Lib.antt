@@ -5,3 +5,4 @@ mod OrderRows
 mod ValidRows
 mod HashRows
 pub mod Holes
+pub mod NumberDocuments

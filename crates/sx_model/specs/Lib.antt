@@ -8,6 +8,7 @@ pub mod Grammar
 pub mod Hash
 pub mod Holes
 pub mod Limits
+pub mod NumberDocuments
 pub mod Numbered
 pub mod Paths
 pub mod Records
