@@ -1,19 +1,15 @@
 -- What a volume's bytes stand for.
-use Rattle.std.specs.Prelude.{ℕ, List, [], ◌∷◌, Option, None, Some}
+use Rattle.std.specs.Prelude.{ℕ, List, [], ◌∷◌}
 use Rattle.sx_model.specs.Commit.{Commit, IsLegal}
 use Rattle.sx_model.specs.Edit.{after}
+use Rattle.sx_model.specs.NumberDocuments.{AreOfNumbers}
 use Rattle.sx_model.specs.State.{State, empty_document}
-use Rattle.sx_model.specs.Value.{Value, text_of}
+use Rattle.sx_model.specs.TreeText.{document_text}
 use Rattle.sx_layout.specs.Group.{Group, Holds}
 
--- the canonical text of the Document's child, or nothing
-abbrev pub body_of : Option Value → List ℕ
-body_of None = []
-body_of (Some value) = text_of value
-
--- the group of a commit that leads to this state
+-- the group of a commit that leads to this state: its body is the text of the document, which is nothing where it has no child
 abbrev pub group_of : Commit → State → Group
-group_of commit state = record { time = commit.time; next = state.next; body = body_of state.child }
+group_of commit state = record { time = commit.time; next = state.next; body = document_text state.trees }
 
 -- the groups of commits that go on from a state
 abbrev pub groups_from : State → List Commit → List Group
@@ -25,6 +21,6 @@ groups_from state (commit ∷ commits) =
 abbrev pub groups_of : List Commit → List Group
 groups_of commits = groups_from empty_document commits
 
--- The image stands for these commits, which are legal: it has their groups.
+-- The image stands for these commits, which are legal and load numbers: it has their groups.
 abbrev pub Stands : List ℕ → List Commit → Type 0
-Stands image commits = IsLegal commits × Holds image (groups_of commits)
+Stands image commits = IsLegal commits × AreOfNumbers commits × Holds image (groups_of commits)

@@ -1,7 +1,7 @@
 -- Values and states that the rows speak of.
-use Rattle.std.proofs.Common.{ℕ, zero, suc, Bool, true, false, List, [], ◌∷◌, codes}
+use Rattle.std.proofs.Common.{ℕ, zero, suc, List, [], ◌∷◌, codes}
 use Rattle.sx_tree.specs.declared.json.Scalar.TheVariants as scalars
-use Rattle.sx_tree.specs.Value.{Value, scalar, array, object, Values, no_values, value_then, Fields, no_fields, field_then}
+use Rattle.sx_tree.specs.Value.{Value, scalar, array, object, Values, no_values, value_then, no_fields, field_then}
 use Rattle.sx_model.specs.State.{State, empty_document}
 use Rattle.sx_model.specs.Edit.{Edit, after}
 

@@ -1,23 +1,18 @@
 -- What loading a number does to a document of one.
-use Rattle.std.proofs.Common.{◌≡◌, ℕ, ◌+◌, ◌<◌, ◌≤◌, ◌⊎◌, inl, inr, Bool, true, false, List, [], ◌∷◌, Option, None, Some, Result, Ok, Err, refl, sym, ap, subst, ◌∙◌, arith, nat_lt, IsOk, IfSome, append-nil}
-use Rattle.std.specs.Prelude.{◌==◌, length}
+use Rattle.std.proofs.Common.{◌≡◌, ℕ, ◌+◌, ◌<◌, ◌≤◌, ◌⊎◌, inl, inr, Bool, true, false, List, [], ◌∷◌, Option, None, Some, Result, Ok, Err, refl, ap, subst, ◌∙◌, arith, nat_lt, IsOk, IfSome, append-nil}
+use Rattle.std.specs.Prelude.{◌==◌}
 use Rattle.std.specs.Result.{result_unwrap_or}
 use Rattle.std.proofs.lemmas.Bool.{false≢true, cases_lt}
 use Rattle.std.proofs.lemmas.Grind.{common_steps}
 use Rattle.sx_tree.specs.declared.edit.EditRefusal.{EditRefusal}
 use Rattle.sx_tree.specs.declared.edit.EditRefusal.TheVariants.{NumbersSpent}
-use Rattle.sx_tree.specs.declared.json.Scalar.TheVariants as scalars
 use Rattle.sx_tree.specs.declared.record.Step.{Step}
 use Rattle.sx_tree.specs.declared.record.Step.TheVariants.{Top}
 use Rattle.sx_tree.specs.Number.{IsLiteral}
-use Rattle.sx_tree.specs.Value.{Value, scalar}
 use Rattle.sx_model.specs.Edit.{load, when, unless, apply, edited, number_limit}
-use Rattle.sx_model.specs.NumberDocuments.{document_of, IsOfNumber, literal_of, with_number}
+use Rattle.sx_model.specs.NumberDocuments.{number, document_of, IsOfNumber, literal_of, with_number}
 use Rattle.sx_model.specs.TreeText.{document_text}
 use Rattle.sx_model.specs.State.{State, empty_document}
-
-abbrev pub number : List ℕ → Value
-number literal = scalar (scalars.Number literal)
 
 self_eq : (n : ℕ) → (n == n) ≡ true
 self_eq n = grind (arith, common_steps)

@@ -1,14 +1,13 @@
 -- A document of orders through three commits: what is selected in it, its axes, and a member that goes.
-use Rattle.std.proofs.Common.{◌≡◌, ℕ, List, [], ◌∷◌, Some, None, codes, refl}
+use Rattle.std.proofs.Common.{◌≡◌, [], ◌∷◌, Some, None, codes, refl}
 use Rattle.sx_tree.specs.declared.json.Scalar.TheVariants as scalars
 use Rattle.sx_tree.specs.declared.query.Axis.TheVariants.{Child, Descendant, Ancestor, Following, Preceding, FollowingSibling, PrecedingSibling}
-use Rattle.sx_tree.specs.declared.record.Kind.TheVariants.{Key}
 use Rattle.sx_tree.specs.declared.record.Step.TheVariants as step
 use Rattle.sx_tree.specs.declared.steps.PathStep.TheVariants.{Name, Item, Anywhere}
 use Rattle.sx_model.specs.State.{State}
 use Rattle.sx_model.specs.Edit.{load, set_scalar, remove}
 use Rattle.sx_model.specs.Axes.{axis}
-use Rattle.sx_model.specs.Records.{node, entry, rows, at_top}
+use Rattle.sx_model.specs.Records.{entry}
 use Rattle.sx_model.specs.Selection.{selected}
 use Rattle.sx_model.specs.TreeText.{text_at}
 use Rattle.sx_model.proofs.Examples.{orders, state_after}

@@ -1,15 +1,15 @@
 -- Each refusal of an edit, with its numbers.
-use Rattle.std.proofs.Common.{◌≡◌, ℕ, ◌^◌, List, [], ◌∷◌, Some, None, Ok, Err, codes, refl}
+use Rattle.std.proofs.Common.{◌≡◌, [], ◌∷◌, Some, None, Err, codes, refl}
 use Rattle.std.specs.Prelude.{IsOk}
 use Rattle.sx_tree.specs.declared.json.Scalar.TheVariants as scalars
-use Rattle.sx_tree.specs.declared.record.Kind.TheVariants.{Document, Array, Number, Key}
-use Rattle.sx_tree.specs.declared.edit.EditRefusal.TheVariants.{NoNode, WrongKind, NameTaken, DocumentFull, TooDeep, NumbersSpent, NameMissing, NameUnasked, PathsSpent}
-use Rattle.sx_tree.specs.declared.edit.Place.TheVariants.{First, Last, Before, After}
+use Rattle.sx_tree.specs.declared.record.Kind.TheVariants.{Document, Number, Key}
+use Rattle.sx_tree.specs.declared.edit.EditRefusal.TheVariants.{NoNode, WrongKind, NameTaken, DocumentFull, TooDeep, NumbersSpent, NameMissing, NameUnasked}
+use Rattle.sx_tree.specs.declared.edit.Place.TheVariants.{First, Last, Before}
 use Rattle.sx_tree.specs.Value.{array, no_values, depth}
 use Rattle.sx_model.specs.State.{State}
 use Rattle.sx_model.specs.Edit.{Edit, load, insert, set_scalar, replace, rename, remove, apply, edited, told_of}
 use Rattle.sx_model.specs.Tree.{nesting}
-use Rattle.sx_model.proofs.Examples.{number, one_two_three, one_member, arrays, state_after}
+use Rattle.sx_model.proofs.Examples.{number, one_member, arrays, state_after}
 
 -- ---- over {"a":1}: the Object is 1, the Key 2 and its value 3
 

@@ -1,8 +1,7 @@
 -- Objects that are valid at a time.
 use Rattle.std.proofs.Common.{◌≡◌, ℕ, ℤ, pos, List, [], ◌∷◌, codes, refl}
 use Rattle.jiff.proofs.OnLiterals.{jiff_on_literals}
-use Rattle.sx_tree.specs.Value.{Value, array, object, no_values, value_then, no_fields, field_then}
-use Rattle.sx_model.specs.State.{State}
+use Rattle.sx_tree.specs.Value.{Value, array, object, no_fields, field_then}
 use Rattle.sx_model.specs.Edit.{load}
 use Rattle.sx_model.specs.Valid.{valid}
 use Rattle.sx_model.proofs.Examples.{string, values, state_after}

@@ -5,11 +5,14 @@ use Rattle.sx_tree.specs.declared.json.Scalar.TheVariants as scalars
 use Rattle.sx_tree.specs.declared.record.Kind.TheVariants.{Number}
 use Rattle.sx_tree.specs.declared.record.Step.TheVariants.{Top}
 use Rattle.sx_tree.specs.Number.{IsLiteral}
-use Rattle.sx_tree.specs.Value.{Value, Values, Fields, scalar, array, object}
+use Rattle.sx_tree.specs.Value.{Value, scalar, array, object}
 use Rattle.sx_model.specs.Commit.{Commit}
 use Rattle.sx_model.specs.Edit.{Edit, load, insert, set_scalar, replace, rename, remove}
 use Rattle.sx_model.specs.State.{State}
 use Rattle.sx_model.specs.Tree.{Forest, no_trees, tree_then, document_with}
+
+abbrev pub number : List ℕ → Value
+number literal = scalar (scalars.Number literal)
 
 -- ---- edits that load a number
 

@@ -1,8 +1,7 @@
 -- The tree that a value becomes.
-use Rattle.std.specs.Prelude.{ℕ, suc, ◌+◌, false, true, List, [], ◌∷◌}
+use Rattle.std.specs.Prelude.{ℕ, suc, ◌+◌, false, true, [], ◌∷◌}
 use Rattle.sx_tree.specs.declared.json.Scalar.{Scalar}
 use Rattle.sx_tree.specs.declared.json.Scalar.TheVariants as scalar_kinds
-use Rattle.sx_tree.specs.declared.record.Kind.{Kind}
 use Rattle.sx_tree.specs.declared.record.Kind.TheVariants.{Object, Array, Key, Str, Number, Bool, Null}
 use Rattle.sx_tree.specs.Value.{Value, scalar, array, object, Values, no_values, value_then, Fields, no_fields, field_then, nodes}
 use Rattle.sx_model.specs.Tree.{Node, Forest, no_trees, tree_then}

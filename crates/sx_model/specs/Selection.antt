@@ -1,5 +1,5 @@
 -- What a path of steps selects in a document.
-use Rattle.std.specs.Prelude.{ℕ, ◌==◌, ◌&&◌, Bool, true, false, List, [], ◌∷◌, filter, bytes_eq}
+use Rattle.std.specs.Prelude.{ℕ, ◌==◌, ◌&&◌, Bool, false, List, [], ◌∷◌, filter, bytes_eq}
 use Rattle.std.specs.List.{list_any}
 use Rattle.sx_tree.specs.declared.steps.PathStep.{PathStep}
 use Rattle.sx_tree.specs.declared.steps.PathStep.TheVariants.{Name, Item, Anywhere}

@@ -1,9 +1,9 @@
 -- The canonical text of a node with all below it.
-use Rattle.std.specs.Prelude.{ℕ, zero, suc, ◌==◌, Bool, true, false, List, [], ◌∷◌, ◌++◌, codes, Option, None, Some, option_map}
+use Rattle.std.specs.Prelude.{ℕ, zero, suc, Bool, true, false, List, [], ◌∷◌, ◌++◌, codes, Option, option_map}
 use Rattle.sx_tree.specs.declared.record.Kind.{Kind}
 use Rattle.sx_tree.specs.declared.record.Kind.TheVariants.{Document, Object, Array, Key, Str, Number, Bool as Truth, Null}
 use Rattle.sx_model.specs.Canonical.{string_text}
-use Rattle.sx_model.specs.Tree.{Node, Forest, no_trees, tree_then, Spot, spot}
+use Rattle.sx_model.specs.Tree.{Forest, no_trees, tree_then, spot}
 
 -- the text of a boolean, from its label
 abbrev pub truth_text : List ℕ → List ℕ

@@ -1,8 +1,6 @@
 -- The Objects of a document that are valid at a time.
 use Rattle.std.specs.Prelude.{ℕ, ℤ, pos, ◌*ℤ◌, int_le, int_lt, ◌&&◌, ◌||◌, Bool, true, false, if◌then◌else◌, List, [], ◌∷◌, ◌++◌, Option, None, Some, Result, Ok, Err, bytes_eq}
 use Rattle.jiff.specs.Words.{parse_timestamp}
-use Rattle.sx_tree.specs.declared.record.Kind.{Kind}
-use Rattle.sx_tree.specs.declared.record.Kind.TheVariants.{Document, Object, Array, Key, Str, Number, Bool as Truth, Null}
 use Rattle.sx_model.specs.Tree.{Node, Forest, no_trees, tree_then, is_key, is_null, is_object, is_string}
 
 -- the value below a Key of this name among an Object's children

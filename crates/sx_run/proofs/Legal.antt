@@ -2,23 +2,28 @@
 use Rattle.std.proofs.Common.{◌≡◌, ◌∙◌, ℕ, ℤ, List, [], ◌∷◌, ◌++◌, length, Bool, true, false, Result, Ok, Err, refl, ap, sym, subst, append_assoc, append-nil, FitsSigned, w64, arith, IsOk, MatchResult, nat_le}
 use Rattle.std.proofs.lemmas.Int.{ints}
 use Rattle.std.specs.Int.{int_max}
-use Rattle.std.specs.Prelude.{◌≤ℤ◌, ◌≤◌, int_lt, cond, T}
+use Rattle.std.specs.Prelude.{◌≤ℤ◌, int_lt, cond, T}
 use Rattle.sx_tree.specs.Number.{IsLiteral}
 use lib.Signed.{lt_z_yes}
 use Rattle.std.specs.Bool.{MatchBool}
 use Rattle.sx_model.specs.Commit.{Commit, AreLegal, IsLegal, replay, first_time, last_time}
-use Rattle.sx_model.specs.Edit.{Edit, EditRefusal, load, IsEdit, apply, edited, after, AreAccepted}
+use Rattle.sx_tree.specs.declared.edit.EditRefusal.{EditRefusal}
+use Rattle.sx_tree.specs.declared.json.Scalar.TheVariants as scalars
+use Rattle.sx_tree.specs.Value.{scalar, array, object}
+use Rattle.sx_model.specs.Edit.{Edit, load, insert, set_scalar, replace, rename, remove, IsEdit, apply, edited, after, AreAccepted}
+use Rattle.sx_model.specs.NumberDocuments.{LoadsNumber, LoadNumbers, AreOfNumbers}
 use Rattle.sx_model.specs.State.{State, empty_document}
-use Rattle.sx_model.specs.Value.{Value, number}
 use Rattle.sx_run.specs.Command.{Command, edit, commit, open_number, ask_text, Spells}
 use Rattle.sx_run.specs.Line.{Item, skipped, no_command, command, Says, without_return}
 use Rattle.sx_run.specs.Reply.{Reply, first, edit_refused, opened, missing}
 use Rattle.sx_run.specs.Run.{Course, current, next_commit, Answers, Gives, Step, Run}
 
--- the commits are legal, and each open edit is accepted in turn
+-- the commits are legal, each open edit is accepted in turn, and all of them load numbers
 pub record IsLegalCourse (course : Course) : Type 0 where
   pub commits : IsLegal course.commits
   pub edits : AreAccepted course.edits (replay course.commits empty_document)
+  pub numbers : AreOfNumbers course.commits
+  pub open_numbers : LoadNumbers course.edits
 
 -- One course goes on from another: its commits begin with those.
 abbrev pub GoesOn : Course → Course → Type 0
@@ -27,6 +32,14 @@ GoesOn old new = (more : List Commit) × (new.commits ≡ old.commits ++ more)
 accepted-append : (edits : List Edit) (asked : Edit) (state : State) → AreAccepted edits state → IsEdit asked → IsOk (apply asked (after edits state)) → AreAccepted (edits ++ asked ∷ []) state
 accepted-append [] asked state all is ok = (is, ok, tt)
 accepted-append (e ∷ edits) asked state all is ok = (all.0, all.1, accepted-append edits asked (edited e state) all.2 is ok)
+
+load-append : (edits : List Edit) (asked : Edit) → LoadNumbers edits → LoadsNumber asked → LoadNumbers (edits ++ asked ∷ [])
+load-append [] asked all is = (is, tt)
+load-append (e ∷ edits) asked all is = (all.0, load-append edits asked all.1 is)
+
+pub numbers-append : (commits : List Commit) (next : Commit) → AreOfNumbers commits → LoadNumbers next.edits → AreOfNumbers (commits ++ next ∷ [])
+numbers-append [] next all is = (is, tt)
+numbers-append (c ∷ commits) next all is = (all.0, numbers-append commits next all.1 is)
 
 legal-append : (commits : List Commit) (next : Commit) (time : ℤ) (state : State) → AreLegal time state commits → FitsSigned w64 next.time → last_time time commits ≤ℤ next.time
     → AreAccepted next.edits (replay commits state) → AreLegal time state (commits ++ next ∷ [])
@@ -59,8 +72,19 @@ next_legal course moment legal fits =
     legal-append course.commits (next_commit course moment) first_time empty_document legal.commits
     (max_fits moment (last_time first_time course.commits) fits last) (max_later moment (last_time first_time course.commits)) legal.edits
 
-spelt_edit : (line : List ℕ) (value : Value) → Spells line (edit (load value)) → IsEdit (load value)
-spelt_edit line (number literal) spells = subst IsLiteral spells.2.0 spells.2.1
+-- what a line spells is an edit that loads a number within the limits
+spelt_edit : (line : List ℕ) (asked : Edit) → Spells line (edit asked) → IsEdit asked × LoadsNumber asked
+spelt_edit line (load (scalar (scalars.Str content))) spells = absurd spells.2
+spelt_edit line (load (scalar (scalars.Number literal))) spells = (subst IsLiteral spells.2.0 spells.2.1, tt)
+spelt_edit line (load (scalar (scalars.Bool truth))) spells = absurd spells.2
+spelt_edit line (load (scalar scalars.Null)) spells = absurd spells.2
+spelt_edit line (load (array vs)) spells = absurd spells.2
+spelt_edit line (load (object fs)) spells = absurd spells.2
+spelt_edit line (insert place name value) spells = absurd spells
+spelt_edit line (set_scalar k s) spells = absurd spells
+spelt_edit line (replace k value) spells = absurd spells
+spelt_edit line (rename k name) spells = absurd spells
+spelt_edit line (remove k) spells = absurd spells
 
 -- what holds of a course and of what goes on from it
 abbrev IsNext : Course → Course → Type 0
@@ -70,31 +94,36 @@ same_next : (old new : Course) → IsLegalCourse old → new ≡ old → IsNext 
 same_next old new legal is = subst (λ (course : Course). IsNext old course) (sym is) (legal, ([], sym (append-nil old.commits)))
 
 answer_legal : (old : Course) (said : Command) (reply : Reply) (new : Course) (line : List ℕ) → IsLegalCourse old → Spells line said → Answers old said reply new → IsNext old new
-answer_legal old (edit (load value)) reply new line legal spells answers = by (apply (load value) (current old)) refl answers
+answer_legal old (edit asked) reply new line legal spells answers = by (apply asked (current old)) refl answers
   where
-    by : (r : Result State EditRefusal) → apply (load value) (current old) ≡ r
-        → MatchResult r (λ state. (reply ≡ first (current old).next) × (new ≡ record old { edits = old.edits ++ load value ∷ [] })) (λ refusal. (reply ≡ edit_refused refusal) × (new ≡ old))
+    by : (r : Result State EditRefusal) → apply asked (current old) ≡ r
+        → MatchResult r (λ state. (reply ≡ first (current old).next) × (new ≡ record old { edits = old.edits ++ asked ∷ [] })) (λ refusal. (reply ≡ edit_refused refusal) × (new ≡ old))
         → IsNext old new
     by (Ok state) is answer =
-        let ok : IsOk (apply (load value) (current old)) = subst IsOk (sym is) refl in
-        let next : IsLegalCourse (record old { edits = old.edits ++ load value ∷ [] }) =
-        record { commits = legal.commits; edits = accepted-append old.edits (load value) (replay old.commits empty_document) legal.edits (spelt_edit line value spells) ok } in
+        let ok : IsOk (apply asked (current old)) = subst IsOk (sym is) refl in
+        let spelt = spelt_edit line asked spells in
+        let next : IsLegalCourse (record old { edits = old.edits ++ asked ∷ [] }) = record {
+          commits = legal.commits;
+          edits = accepted-append old.edits asked (replay old.commits empty_document) legal.edits spelt.0 ok;
+          numbers = legal.numbers;
+          open_numbers = load-append old.edits asked legal.open_numbers spelt.1;
+        } in
         subst (λ (course : Course). IsNext old course) (sym answer.1) (next, ([], sym (append-nil old.commits)))
     by (Err refusal) is answer = same_next old new legal answer.1
 answer_legal old commit reply new line legal spells answers =
     let done = next_commit old answers.0 in
     let next : IsLegalCourse (record old { commits = old.commits ++ done ∷ []; edits = []; moments = new.moments }) =
-    record { commits = next_legal old answers.0 legal answers.1; edits = tt } in
+    record { commits = next_legal old answers.0 legal answers.1; edits = tt; numbers = numbers-append old.commits done legal.numbers legal.open_numbers; open_numbers = tt } in
     subst (λ (course : Course). IsNext old course) (sym answers.4) (next, (done ∷ [], refl))
 answer_legal old (open_number revision) reply new line legal spells answers = by (nat_le revision (length old.commits)) answers
   where
     by : (t : Bool) → MatchBool t ((reply ≡ opened revision) × (new ≡ record old { revision = revision; seen = length old.commits }))
         ((reply ≡ missing revision (length old.commits)) × (new ≡ record old { seen = length old.commits })) → IsNext old new
     by true answer =
-        let next : IsLegalCourse (record old { revision = revision; seen = length old.commits }) = record { commits = legal.commits; edits = legal.edits } in
+        let next : IsLegalCourse (record old { revision = revision; seen = length old.commits }) = record { commits = legal.commits; edits = legal.edits; numbers = legal.numbers; open_numbers = legal.open_numbers } in
         subst (λ (course : Course). IsNext old course) (sym answer.1) (next, ([], sym (append-nil old.commits)))
     by false answer =
-        let next : IsLegalCourse (record old { seen = length old.commits }) = record { commits = legal.commits; edits = legal.edits } in
+        let next : IsLegalCourse (record old { seen = length old.commits }) = record { commits = legal.commits; edits = legal.edits; numbers = legal.numbers; open_numbers = legal.open_numbers } in
         subst (λ (course : Course). IsNext old course) (sym answer.1) (next, ([], sym (append-nil old.commits)))
 answer_legal old ask_text reply new line legal spells answers = same_next old new legal answers.1
 

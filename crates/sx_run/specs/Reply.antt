@@ -1,7 +1,10 @@
 -- The replies and their bytes.
 use Rattle.std.specs.Prelude.{ℕ, ℤ, List, ◌++◌, codes}
 use Rattle.std.specs.Fmt.{decimal, signed_decimal}
-use Rattle.sx_model.specs.Edit.{EditRefusal, numbers_spent}
+use Rattle.sx_tree.specs.declared.edit.EditRefusal.{EditRefusal}
+use Rattle.sx_tree.specs.declared.edit.EditRefusal.TheVariants.{NoNode, WrongKind, NameTaken, DocumentFull, TooDeep, NumbersSpent, NameMissing, NameUnasked, PathsSpent}
+use Rattle.sx_tree.specs.declared.record.Kind.{Kind}
+use Rattle.sx_tree.specs.declared.record.Kind.TheVariants.{Document, Object, Array, Key, Str, Number, Bool, Null}
 
 pub data Reply : Type 0 where
   -- the first new number
@@ -16,8 +19,26 @@ pub data Reply : Type 0 where
   -- the revision that was asked for, and the number seen
   missing : ℕ → ℕ → Reply
 
+abbrev pub kind_name : Kind → List ℕ
+kind_name Document = codes "Document"
+kind_name Object = codes "Object"
+kind_name Array = codes "Array"
+kind_name Key = codes "Key"
+kind_name Str = codes "String"
+kind_name Number = codes "Number"
+kind_name Bool = codes "Bool"
+kind_name Null = codes "Null"
+
 abbrev pub refusal_bytes : EditRefusal → List ℕ
-refusal_bytes (numbers_spent next) = codes "NumbersSpent " ++ decimal next
+refusal_bytes (NoNode node) = codes "NoNode " ++ decimal node
+refusal_bytes (WrongKind node kind) = codes "WrongKind " ++ decimal node ++ codes " " ++ kind_name kind
+refusal_bytes (NameTaken node) = codes "NameTaken " ++ decimal node
+refusal_bytes (DocumentFull node) = codes "DocumentFull " ++ decimal node
+refusal_bytes (TooDeep depth) = codes "TooDeep " ++ decimal depth
+refusal_bytes (NumbersSpent next) = codes "NumbersSpent " ++ decimal next
+refusal_bytes NameMissing = codes "NameMissing"
+refusal_bytes NameUnasked = codes "NameUnasked"
+refusal_bytes (PathsSpent paths) = codes "PathsSpent " ++ decimal paths
 
 -- a reply without its line feed
 abbrev pub said_bytes : Reply → List ℕ

@@ -1,11 +1,12 @@
 -- A run over the lines of a script: what it changes and what it writes.
-use Rattle.std.specs.Prelude.{ℕ, ℤ, ◌≡◌, ◌+◌, nat_le, List, [], ◌∷◌, ◌++◌, length, Option, None, Some, MatchResult, FitsSigned}
+use Rattle.std.specs.Prelude.{ℕ, ℤ, ◌≡◌, ◌+◌, nat_le, List, [], ◌∷◌, ◌++◌, length, Option, MatchResult, FitsSigned}
 use Rattle.std.specs.Bool.{MatchBool}
 use Rattle.std.specs.Int.{int_max, w64}
 use Rattle.sx_model.specs.Commit.{Commit, replay, state_of, first_time, last_time}
 use Rattle.sx_model.specs.Edit.{Edit, apply, after}
 use Rattle.sx_model.specs.State.{State, empty_document}
-use Rattle.sx_model.specs.Value.{Value, text_of}
+use Rattle.sx_model.specs.Tree.{Forest, no_trees, tree_then}
+use Rattle.sx_model.specs.TreeText.{document_text}
 use Rattle.sx_outside.specs.Clock.{Ticks}
 use Rattle.sx_run.specs.Command.{Command, edit, commit, open_number, ask_text}
 use Rattle.sx_run.specs.Line.{Item, skipped, no_command, command, Says}
@@ -30,9 +31,11 @@ started commits moments = record { commits = commits; edits = []; revision = 0; 
 abbrev pub current : Course → State
 current course = after course.edits (replay course.commits empty_document)
 
-abbrev pub text_reply : Option Value → Reply
-text_reply None = empty
-text_reply (Some value) = text (text_of value)
+-- the text of the document, or that it has no child
+abbrev pub text_reply : Forest → Reply
+text_reply no_trees = empty
+text_reply (tree_then document no_trees rest) = empty
+text_reply (tree_then document (tree_then n below more) rest) = text (document_text (tree_then document (tree_then n below more) rest))
 
 -- The commit's time is the greater of the moment and the last commit's time.
 abbrev pub next_commit : Course → ℤ → Commit
@@ -53,7 +56,7 @@ Answers old (open_number revision) reply new =
     MatchBool (nat_le revision (length old.commits))
     ((reply ≡ opened revision) × (new ≡ record old { revision = revision; seen = length old.commits }))
     ((reply ≡ missing revision (length old.commits)) × (new ≡ record old { seen = length old.commits }))
-Answers old ask_text reply new = (reply ≡ text_reply (state_of old.commits old.revision).child) × (new ≡ old)
+Answers old ask_text reply new = (reply ≡ text_reply (state_of old.commits old.revision).trees) × (new ≡ old)
 
 -- What an item writes, and what it leaves.
 abbrev pub Gives : Course → Item → List ℕ → Course → Type 0

@@ -1,21 +1,21 @@
 -- From the groups of a volume to the commits that it stands for.
 use Rattle.std.proofs.Common.{◌≡◌, ◌∙◌, ℕ, ℤ, ◌≤◌, ◌⊎◌, inl, inr, ⊎_elim, List, [], ◌∷◌, ◌++◌, length, slice_set, Option, refl, ap, sym, subst, append_assoc, append-nil, length-append, arith, w64, FitsSigned}
 use Rattle.std.specs.Int.{int_max}
-use Rattle.std.specs.Option.{option_map}
 use Rattle.std.proofs.lemmas.Bool.Decides.{leb_tells}
 use Rattle.std.proofs.lemmas.List.{append_cancel_left}
 use Rattle.sx_layout.specs.Group.{Group, HasGroups, Holds, opened, end_of, last_time}
-use Rattle.sx_layout.specs.Stands.{Stands, body_of, group_of, groups_from, groups_of}
+use Rattle.sx_layout.specs.Stands.{Stands, group_of, groups_from, groups_of}
 use Rattle.sx_log.specs.Reading.{IsLeft, IsSynced}
 use Rattle.sx_model.specs.Commit.{Commit, AreLegal, IsLegal, first_time, replay}
 use Rattle.sx_model.specs.Edit.{after}
+use Rattle.sx_model.specs.NumberDocuments.{AreOfNumbers}
 use Rattle.sx_model.specs.State.{State, empty_document}
-use Rattle.sx_model.specs.Value.{Value, number}
 use Rattle.sx_outside.specs.Clock.{Ticks}
-use Rattle.sx_run.proofs.Legal.{IsLegalCourse, GoesOn, next_legal}
+use Rattle.sx_run.proofs.Legal.{IsLegalCourse, GoesOn, next_legal, numbers-append}
 use Rattle.sx_run.specs.Run.{Course, current, next_commit}
 use Rattle.sx_shell.proofs.Groups.{groups_from-append, last_time-groups_from, replay-append}
 use Rattle.sx_shell.specs.Crash.{Climbs, IsFront, FailedSecond, StandsWithNext, StandsAtEnd, IsSafe, IsSealed, HasClimbed, next_group, HasNext}
+use Rattle.sx_shell.specs.Body.{body_of}
 use Rattle.sx_shell.specs.Shows.{Shows}
 use Rattle.sx_shell.specs.declared.desk.Desk.{Desk}
 use Rattle.sx_volume.specs.Images.{Elapses}
@@ -33,15 +33,26 @@ legal_front : (front rest : List Commit) (time : ℤ) (state : State) → AreLeg
 legal_front [] rest time state legal = tt
 legal_front (commit ∷ front) rest time state legal = (legal.0, legal.1, legal.2, legal_front front rest commit.time (after commit.edits state) legal.3)
 
+numbers_front : (front rest : List Commit) → AreOfNumbers (front ++ rest) → AreOfNumbers front
+numbers_front [] rest numbers = tt
+numbers_front (commit ∷ front) rest numbers = (numbers.0, numbers_front front rest numbers.1)
+
+-- what the commits of an image are
+abbrev AreKept : List Commit → Type 0
+AreKept commits = IsLegal commits × AreOfNumbers commits
+
+kept_front : (front rest : List Commit) → AreKept (front ++ rest) → AreKept front
+kept_front front rest kept = (legal_front front rest first_time empty_document kept.0, numbers_front front rest kept.1)
+
 -- the group of the desk's next commit is that of the course's
 next_shown : (desk : Desk) (course : Course) (moment : ℤ) → Shows desk course → next_group desk moment ≡ group_of (next_commit course moment) (current course)
 next_shown desk course moment shows =
     let time : int_max moment (last_time first_time desk.log) ≡ (next_commit course moment).time =
     ap (λ (groups : List Group). int_max moment (last_time first_time groups)) shows.groups
     ∙ ap (λ (t : ℤ). int_max moment t) (last_time-groups_from course.commits empty_document first_time) in
-    ap (λ (t : ℤ). record { time = t; next = desk.next; body = body_of (option_map number desk.child) }) time
-    ∙ ap (λ (n : ℕ). record { time = (next_commit course moment).time; next = n; body = body_of (option_map number desk.child) }) shows.next
-    ∙ ap (λ (child : Option Value). record { time = (next_commit course moment).time; next = (current course).next; body = body_of child }) shows.child
+    ap (λ (t : ℤ). record { time = t; next = desk.next; body = body_of desk.child }) time
+    ∙ ap (λ (n : ℕ). record { time = (next_commit course moment).time; next = n; body = body_of desk.child }) shows.next
+    ∙ ap (λ (body : List ℕ). record { time = (next_commit course moment).time; next = (current course).next; body = body }) shows.child
 
 next_stands : (desk : Desk) (end : Course) (clock : ℤ) (image : List ℕ) → Shows desk end → IsLegalCourse end → FitsSigned w64 clock → HasNext desk clock image → StandsWithNext end clock image
 next_stands desk end clock image shows legal fits has =
@@ -49,7 +60,7 @@ next_stands desk end clock image shows legal fits has =
     ap (λ (list : List Group). list ++ next_group desk clock ∷ []) shows.groups
     ∙ ap (λ (group : Group). groups_of end.commits ++ group ∷ []) (next_shown desk end clock shows)
     ∙ sym (groups_from-append end.commits (next_commit end clock) empty_document) in
-    (next_legal end clock legal fits, holds image (groups_of (end.commits ++ next_commit end clock ∷ [])) (subst (λ (list : List Group). HasGroups image list) groups has))
+    (next_legal end clock legal fits, numbers-append end.commits (next_commit end clock) legal.numbers legal.open_numbers, holds image (groups_of (end.commits ++ next_commit end clock ∷ [])) (subst (λ (list : List Group). HasGroups image list) groups has))
 
 -- a commit of the desk that failed at its second stage is that of the course
 sealed_second : (desk : Desk) (end : Course) (moments : Option (List ℤ)) (failed : Type 0) (from : ℕ) (was : ℕ → List ℕ → Type 0) (has : ℕ → Type 0) → failed → Shows desk end → IsLegalCourse end → end.moments ≡ moments
@@ -71,7 +82,7 @@ sealed_second desk end moments failed from was has fails shows legal same sealed
 -- what is left as it was stands for what it stood for
 pub left_stands : (image c : List ℕ) (commits : List Commit) → Stands image commits → IsLeft image c → Stands c commits
 left_stands image c commits stands (inl same) = subst (λ (bytes : List ℕ). Stands bytes commits) (sym same) stands
-left_stands image c commits stands (inr short) = (stands.0, by stands.1)
+left_stands image c commits stands (inr short) = (stands.0, stands.1, by stands.2)
   where
     by : Holds image (groups_of commits) → Holds c (groups_of commits)
     by (inl none) = inl (short.1, none.1)
@@ -105,20 +116,20 @@ groups_from-split [] ks state = refl
 groups_from-split (commit ∷ cs) ks state = ap (λ (groups : List Group). group_of commit (after commit.edits state) ∷ groups) (groups_from-split cs ks (after commit.edits state))
 
 -- where groups come one after another, so do their commits
-climbs_commits : (was : ℕ → List ℕ → Type 0) (from last : ℕ) (cs ks : List Commit) → IsLegal (cs ++ ks)
+climbs_commits : (was : ℕ → List ℕ → Type 0) (from last : ℕ) (cs ks : List Commit) → AreKept (cs ++ ks)
     → Climbs (λ groups image. HasGroups image groups) was from last (groups_of cs) (groups_from (replay cs empty_document) ks)
     → Climbs (λ commits image. Stands image commits) was from last cs ks
-climbs_commits was from last cs [] legal climbs =
-    let here : IsLegal cs = legal_front cs [] first_time empty_document legal in (
+climbs_commits was from last cs [] kept climbs =
+    let here : AreKept cs = kept_front cs [] kept in (
       climbs.0,
-      λ image left. ⊎_elim (λ (has : HasGroups image (groups_of cs)). inl (here, holds image (groups_of cs) has)) (λ (later : was last image). inr later) (climbs.1 image left),
+      λ image left. ⊎_elim (λ (has : HasGroups image (groups_of cs)). inl (here.0, here.1, holds image (groups_of cs) has)) (λ (later : was last image). inr later) (climbs.1 image left),
     )
-climbs_commits was from last cs (k ∷ ks) legal climbs =
+climbs_commits was from last cs (k ∷ ks) kept climbs =
     let state : State = replay cs empty_document in
     let group : Group = group_of k (after k.edits state) in
-    let here : IsLegal cs = legal_front cs (k ∷ ks) first_time empty_document legal in
-    let rest : IsLegal ((cs ++ k ∷ []) ++ ks) = subst (λ (commits : List Commit). IsLegal commits) (sym (append_assoc cs (k ∷ []) ks)) legal in
-    let next : IsLegal (cs ++ k ∷ []) = legal_front (cs ++ k ∷ []) ks first_time empty_document rest in
+    let here : AreKept cs = kept_front cs (k ∷ ks) kept in
+    let rest : AreKept ((cs ++ k ∷ []) ++ ks) = subst AreKept (sym (append_assoc cs (k ∷ []) ks)) kept in
+    let next : AreKept (cs ++ k ∷ []) = kept_front (cs ++ k ∷ []) ks rest in
     let groups : groups_of (cs ++ k ∷ []) ≡ groups_of cs ++ group ∷ [] = groups_from-append cs k empty_document in
     let now_state : replay (cs ++ k ∷ []) empty_document ≡ after k.edits state = replay-append cs k empty_document in
     let on : Climbs (λ gs image. HasGroups image gs) was climbs.0 last (groups_of (cs ++ k ∷ [])) (groups_from (replay (cs ++ k ∷ []) empty_document) ks) =
@@ -127,11 +138,11 @@ climbs_commits was from last cs (k ∷ ks) legal climbs =
       climbs.0,
       climbs.1,
       λ image left.
-          ⊎_elim (λ (has : HasGroups image (groups_of cs)). inl (here, holds image (groups_of cs) has))
+          ⊎_elim (λ (has : HasGroups image (groups_of cs)). inl (here.0, here.1, holds image (groups_of cs) has))
           (λ (more : HasGroups image (groups_of cs ++ group ∷ []) ⊎ was climbs.0 image).
           ⊎_elim
           (λ (one : HasGroups image (groups_of cs ++ group ∷ [])).
-          inr (inl (next, holds image (groups_of (cs ++ k ∷ [])) (subst (λ (gs : List Group). HasGroups image gs) (sym groups) one))))
+          inr (inl (next.0, next.1, holds image (groups_of (cs ++ k ∷ [])) (subst (λ (gs : List Group). HasGroups image gs) (sym groups) one))))
           (λ (later : was climbs.0 image). inr (inr later)) more)
           (climbs.2 image left),
       climbs_commits was climbs.0 last (cs ++ k ∷ []) ks rest on,
@@ -161,7 +172,7 @@ module _ (start end : Course) (failed ended : Type 0) (image : List ℕ) (first 
       (λ c left.
       ⊎_elim (λ (earlier : was synced.moment c). inl (left_stands image c start.commits stands (synced.since c earlier))) (λ (here : is mid c). inr here)
       (time.nothing_else synced.moment c synced.no_later left))
-      (climbs_commits is mid climbs.last start.commits on.0 (subst (λ (commits : List Commit). IsLegal commits) on.1 legal.commits) shown)
+      (climbs_commits is mid climbs.last start.commits on.0 (subst AreKept on.1 (legal.commits, legal.numbers)) shown)
 
   safe_with : (clock : ℤ) → ((c : List ℕ) → is climbs.last c → StandsAtEnd end clock (FailedSecond end clock ended climbs.last is z) c)
       → IsSafe start end ended first now before is_image is x z
@@ -192,7 +203,7 @@ module _ (start end : Course) (failed ended : Type 0) (image : List ℕ) (first 
   }
 
   all_stand : (c : List ℕ) → HasGroups c new.log → Stands c end.commits
-  all_stand c has = (legal.commits, holds c (groups_of end.commits) (subst (λ (list : List Group). HasGroups c list) shows_new has))
+  all_stand c has = (legal.commits, legal.numbers, holds c (groups_of end.commits) (subst (λ (list : List Group). HasGroups c list) shows_new has))
 
   pub safe_run : (failed → Shows new end × ended × (end.moments ≡ moments)) → failed ⊎ (failed → ⊥) → IsSafe start end ended first now before is_image is x z
   safe_run shows (inr fine) = safe_with first_time (λ c left. inl (all_stand c (climbs.since_last fine c left)))

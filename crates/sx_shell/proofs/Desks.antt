@@ -1,24 +1,30 @@
 -- Steps of the shell's state and of the course that it shows.
-use Rattle.std.proofs.Common.{◌≡◌, ◌≢◌, ◌∙◌, ℕ, suc, ℤ, slice_get, IfSome, ◌+◌, ◌<◌, ◌≤◌, ◌^◌, List, [], ◌∷◌, ◌++◌, length, length-append, Bool, true, false, cond, nat_le, Ok, Err, Some, Option, refl, ap, sym, subst, arith, MatchResult, Result, FitsSigned, w64}
+use Rattle.std.proofs.Common.{◌≡◌, ◌∙◌, ℕ, suc, ℤ, slice_get, IfSome, ◌+◌, ◌<◌, ◌≤◌, ◌^◌, List, [], ◌∷◌, ◌++◌, length, length-append, Bool, true, false, nat_le, Ok, Err, Some, Option, refl, ap, sym, subst, arith, MatchResult, Result, FitsSigned, w64}
 use Rattle.std.specs.Result.{result_unwrap_or}
 use Rattle.std.proofs.lemmas.Bool.Decides.{nat_tests}
 use Rattle.std.specs.Bool.{MatchBool}
 use Rattle.std.specs.Int.{int_max}
-use Rattle.std.specs.Option.{option_map}
 use Rattle.sx_layout.specs.Group.{Group, last_time as last_group_time}
-use Rattle.sx_layout.specs.Stands.{body_of, groups_of, group_of}
+use Rattle.sx_layout.specs.Stands.{groups_of, group_of}
 use Rattle.sx_model.specs.Commit.{Commit, replay, first_time, state_of}
-use Rattle.sx_model.specs.Edit.{Edit, EditRefusal, load, numbers_spent, apply}
+use Rattle.sx_tree.specs.declared.edit.EditRefusal.{EditRefusal}
+use Rattle.sx_tree.specs.declared.edit.EditRefusal.TheVariants.{NumbersSpent}
+use Rattle.sx_tree.specs.Number.{IsLiteral}
+use Rattle.sx_model.specs.Edit.{Edit, load, apply}
+use Rattle.sx_model.specs.NumberDocuments.{number, with_number, IsOfNumber}
+use Rattle.sx_model.specs.TreeText.{document_text}
+use Rattle.sx_model.proofs.NumberDocuments as model
+use Rattle.sx_model.proofs.NumberDocuments.{of_number-with, document_text-of}
 use Rattle.sx_model.specs.State.{State, empty_document}
-use Rattle.sx_model.specs.Value.{Value, number}
 use Rattle.sx_outside.specs.Clock.{Ticks}
 use Rattle.sx_run.specs.Command.{edit, commit, open_number}
-use Rattle.sx_run.specs.Line.{command}
+use Rattle.sx_run.specs.Line.{Item, command, Says}
 use Rattle.sx_run.specs.Reply.{reply_bytes, first, committed, opened, edit_refused, missing}
-use Rattle.sx_run.specs.Run.{Course, current, next_commit, Answers, Gives}
-use Rattle.sx_shell.specs.Shows.{HasText, Shows}
+use Rattle.sx_run.specs.Run.{Course, current, next_commit, Answers, Gives, Step}
+use Rattle.sx_shell.specs.Body.{body_of}
+use Rattle.sx_shell.specs.Shows.{Shows, Serves, Steps}
 use Rattle.sx_shell.specs.declared.desk.Desk.{Desk}
-use Rattle.sx_shell.proofs.Groups.{after-append, replay-append, groups_from-append, length-groups_from, last_time-groups_from, texts-append, slice_get-within, body_at}
+use Rattle.sx_shell.proofs.Groups.{after-append, replay-append, groups_from-append, length-groups_from, last_time-groups_from, numbers-append, slice_get-within, body_at}
 
 within : (a b : ℕ) → a ≤ b → nat_le a b ≡ true
 within a b le = grind (arith, nat_tests)
@@ -26,25 +32,16 @@ within a b le = grind (arith, nat_tests)
 past : (a b : ℕ) → b < a → nat_le a b ≡ false
 past a b lt = grind (arith, nat_tests)
 
-apply-accepted : (literal : List ℕ) (state : State) → state.next < 2 ^ 30
-    → apply (load (number literal)) state ≡ Ok (record { child = Some (number literal); next = state.next + 1 })
-apply-accepted literal state below =
-    ap (λ (b : Bool). cond b (Ok (record { child = Some (number literal); next = state.next + 1 })) (Err (numbers_spent state.next))) (within (state.next + 1) (2 ^ 30) (omega arith))
-
-apply-refused : (literal : List ℕ) (state : State) → 2 ^ 30 ≤ state.next → apply (load (number literal)) state ≡ Err (numbers_spent state.next)
-apply-refused literal state above =
-    ap (λ (b : Bool). cond b (Ok (record { child = Some (number literal); next = state.next + 1 })) (Err (numbers_spent state.next))) (past (state.next + 1) (2 ^ 30) (omega arith))
-
 -- A number is loaded.
-pub loads : (old new : Desk) (course : Course) (literal bytes : List ℕ) → old.next < 2 ^ 30 → literal ≢ [] → Shows old course
+pub loads : (old new : Desk) (course : Course) (literal bytes : List ℕ) → old.next < 2 ^ 30 → IsLiteral literal → Shows old course
     → new.log ≡ old.log → new.child ≡ Some literal → new.next ≡ old.next + 1 → new.revision ≡ old.revision
     → bytes ≡ reply_bytes (first old.next)
     → (next : Course) × Gives course (command (edit (load (number literal)))) bytes next × Shows new next × (next.moments ≡ course.moments)
-loads old new course literal bytes below some shows same_log is_child is_next same_revision said =
-    let state : State = record { child = Some (number literal); next = (current course).next + 1 } in
+loads old new course literal bytes below short shows same_log is_child is_next same_revision said =
+    let state : State = with_number literal (current course) in
     let asked : Edit = load (number literal) in
     let room : (current course).next < 2 ^ 30 = omega (arith, shows.next) in
-    let accepted : apply asked (current course) ≡ Ok state = apply-accepted literal (current course) room in
+    let accepted : apply asked (current course) ≡ Ok state = model.loads literal (current course) shows.number room in
     let next : Course = record course { edits = course.edits ++ asked ∷ [] } in
     let now : current next ≡ state =
     after-append course.edits asked (replay course.commits empty_document) ∙ ap (λ (r : Result State EditRefusal). result_unwrap_or r (current course)) accepted in
@@ -57,30 +54,30 @@ loads old new course literal bytes below some shows same_log is_child is_next sa
       (first (current course).next, answers, said_next),
       record {
         groups = same_log ∙ shows.groups;
-        child = ap (λ (child : Option (List ℕ)). option_map number child) is_child ∙ ap (λ (s : State). s.child) (sym now);
+        child = ap body_of is_child ∙ sym (document_text-of (Some ((current course).next, literal))) ∙ ap (λ (s : State). document_text s.trees) (sym now);
         next = is_next ∙ ap (λ (n : ℕ). n + 1) shows.next ∙ ap (λ (s : State). s.next) (sym now);
         revision = same_revision ∙ shows.revision;
         opened = shows.opened;
-        text = subst (λ (s : State). HasText s.child) (sym now) some;
-        texts = shows.texts;
+        number = subst IsOfNumber (sym now) (of_number-with literal (current course) shows.number short);
+        numbers = shows.numbers;
       },
       refl,
     )
 
 -- Node numbers are spent.
 pub refuses_load : (old : Desk) (course : Course) (literal bytes : List ℕ) → 2 ^ 30 ≤ old.next → Shows old course
-    → bytes ≡ reply_bytes (edit_refused (numbers_spent old.next))
+    → bytes ≡ reply_bytes (edit_refused (NumbersSpent old.next))
     → (next : Course) × Gives course (command (edit (load (number literal)))) bytes next × Shows old next × (next.moments ≡ course.moments)
 refuses_load old course literal bytes above shows said =
     let asked : Edit = load (number literal) in
     let spent : 2 ^ 30 ≤ (current course).next = omega (arith, shows.next) in
-    let refusal : EditRefusal = numbers_spent (current course).next in
-    let refused : apply asked (current course) ≡ Err refusal = apply-refused literal (current course) spent in
+    let refusal : EditRefusal = NumbersSpent (current course).next in
+    let refused : apply asked (current course) ≡ Err refusal = model.refuses literal (current course) shows.number spent in
     let answers : Answers course (edit asked) (edit_refused refusal) course =
     subst (λ (r : Result State EditRefusal). MatchResult r
     (λ s. (edit_refused refusal ≡ first (current course).next) × (course ≡ record course { edits = course.edits ++ asked ∷ [] }))
     (λ e. (edit_refused refusal ≡ edit_refused e) × (course ≡ course))) (sym refused) (refl, refl) in
-    (course, (edit_refused refusal, answers, said ∙ ap (λ (n : ℕ). reply_bytes (edit_refused (numbers_spent n))) shows.next), shows, refl)
+    (course, (edit_refused refusal, answers, said ∙ ap (λ (n : ℕ). reply_bytes (edit_refused (NumbersSpent n))) shows.next), shows, refl)
 
 seen_all : (desk : Desk) (course : Course) → Shows desk course → length desk.log ≡ length course.commits
 seen_all desk course shows = ap (λ (groups : List Group). length groups) shows.groups ∙ length-groups_from course.commits empty_document
@@ -102,12 +99,12 @@ opens old new course asked bytes below shows same_log same_child same_next is_op
       (opened asked, answers, said),
       record {
         groups = same_log ∙ shows.groups;
-        child = ap (λ (child : Option (List ℕ)). option_map number child) same_child ∙ shows.child;
+        child = ap body_of same_child ∙ shows.child;
         next = same_next ∙ shows.next;
         revision = is_open;
         opened = omega arith;
-        text = shows.text;
-        texts = shows.texts;
+        number = shows.number;
+        numbers = shows.numbers;
       },
       refl,
     )
@@ -133,8 +130,8 @@ misses old course asked seen bytes is_seen above shows said =
         next = shows.next;
         revision = shows.revision;
         opened = shows.opened;
-        text = shows.text;
-        texts = shows.texts;
+        number = shows.number;
+        numbers = shows.numbers;
       },
       refl,
     )
@@ -144,7 +141,7 @@ pub commits_edits : (old new : Desk) (course : Course) (before after_moments : O
     → Shows old course → course.moments ≡ before
     → FitsSigned w64 moment → Ticks before moment after_moments
     → revision ≡ length old.log + 1
-    → body ≡ body_of (option_map number old.child)
+    → body ≡ body_of old.child
     → new.log ≡ old.log ++ record { time = int_max moment (last_group_time first_time old.log); next = old.next; body = body } ∷ []
     → new.child ≡ old.child → new.next ≡ old.next → new.revision ≡ old.revision
     → bytes ≡ reply_bytes (committed revision (int_max moment (last_group_time first_time old.log)))
@@ -161,7 +158,7 @@ commits_edits old new course before after_moments moment revision body bytes sho
     let shown : group ≡ group_of done (current course) =
     ap (λ (t : ℤ). record { time = t; next = old.next; body = body }) time
     ∙ ap (λ (n : ℕ). record { time = done.time; next = n; body = body }) shows.next
-    ∙ ap (λ (b : List ℕ). record { time = done.time; next = (current course).next; body = b }) (is_body ∙ ap (λ (child : Option Value). body_of child) shows.child) in
+    ∙ ap (λ (b : List ℕ). record { time = done.time; next = (current course).next; body = b }) (is_body ∙ shows.child) in
     let groups : new.log ≡ groups_of next.commits =
     is_log ∙ ap (λ (list : List Group). list ++ group ∷ []) shows.groups
     ∙ ap (λ (g : Group). groups_of course.commits ++ g ∷ []) shown
@@ -178,12 +175,12 @@ commits_edits old new course before after_moments moment revision body bytes sho
       ),
       record {
         groups = groups;
-        child = ap (λ (child : Option (List ℕ)). option_map number child) same_child ∙ shows.child ∙ ap (λ (s : State). s.child) (sym now);
+        child = ap body_of same_child ∙ shows.child ∙ ap (λ (s : State). document_text s.trees) (sym now);
         next = same_next ∙ shows.next ∙ ap (λ (s : State). s.next) (sym now);
         revision = same_revision ∙ shows.revision;
         opened = omega arith;
-        text = subst (λ (s : State). HasText s.child) (sym now) shows.text;
-        texts = texts-append course.commits done empty_document shows.texts shows.text;
+        number = subst IsOfNumber (sym now) shows.number;
+        numbers = numbers-append course.commits done empty_document shows.numbers shows.number;
       },
       refl,
     )
@@ -191,10 +188,21 @@ commits_edits old new course before after_moments moment revision body bytes sho
 -- The body of the revision that is open is the text of its state.
 pub opened_body : (desk : Desk) (course : Course) (bytes : List ℕ) (index : ℕ) → Shows desk course → desk.revision ≡ suc index → desk.revision ≤ length desk.log
     → IfSome (slice_get desk.log index) (λ group. bytes ≡ group.body)
-    → bytes ≡ body_of (state_of course.commits course.revision).child
+    → bytes ≡ document_text (state_of course.commits course.revision).trees
 opened_body desk course bytes index shows is_next within_log read =
     let found = slice_get-within desk.log index (omega arith) in
     let body : bytes ≡ found.0.body = subst (λ (at : Option Group). IfSome at (λ group. bytes ≡ group.body)) found.1 read in
     let at : slice_get (groups_of course.commits) index ≡ Some found.0 = ap (λ (groups : List Group). slice_get groups index) (sym shows.groups) ∙ found.1 in
     body ∙ body_at course.commits empty_document index found.0 at
-    ∙ ap (λ (r : ℕ). body_of (state_of course.commits r).child) (sym is_next ∙ shows.revision)
+    ∙ ap (λ (r : ℕ). document_text (state_of course.commits r).trees) (sym is_next ∙ shows.revision)
+
+-- A line whose item takes a step is served, whatever the desk and the reply are called.
+pub served_by : (item : Item) (line items bytes : List ℕ) (moments : Option (List ℤ)) (old new desk : Desk) → Says line item → desk ≡ new → bytes ≡ items
+    → Steps (λ course. Gives course item items) old new → Serves (λ course. Step course line bytes) moments moments old desk
+served_by item line items bytes moments old new desk says is_desk is_bytes steps = λ course shows before.
+    let done = steps course shows in (
+      done.0,
+      (item, says, subst (λ (out : List ℕ). Gives course item out done.0) (sym is_bytes) done.1),
+      subst (λ (d : Desk). Shows d done.0) (sym is_desk) done.2,
+      done.3 ∙ before,
+    )

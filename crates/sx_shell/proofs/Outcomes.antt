@@ -7,6 +7,7 @@ use Rattle.sx_log.specs.Reading.{IsOther, IsSynced, IsUnsynced}
 use Rattle.sx_log.specs.declared.fault.LogFault.{LogFault}
 use Rattle.sx_log.specs.declared.fault.LogFault.TheVariants as log
 use Rattle.sx_model.specs.Commit.{Commit, IsLegal}
+use Rattle.sx_model.specs.NumberDocuments.{AreOfNumbers}
 use Rattle.sx_run.proofs.Legal.{IsLegalCourse, GoesOn, step_legal, run_legal}
 use Rattle.sx_run.specs.Lines.{lines_of, ended_lines_of}
 use Rattle.sx_run.specs.Run.{Course, started}
@@ -22,8 +23,8 @@ use Rattle.sx_shell.specs.declared.status.Status.TheVariants.{Done, Usage, ReadF
 pub at_told : (P : List ℕ → Type 0) (bytes : Option (List ℕ)) (image : List ℕ) → bytes ≡ Some image → IfSome bytes P → P image
 at_told P bytes image is holds = subst (λ (b : Option (List ℕ)). IfSome b P) is holds
 
-pub started_legal : (commits : List Commit) (moments : Option (List ℤ)) → IsLegal commits → IsLegalCourse (started commits moments)
-started_legal commits moments legal = record { commits = legal; edits = tt }
+pub started_legal : (commits : List Commit) (moments : Option (List ℤ)) → IsLegal commits → AreOfNumbers commits → IsLegalCourse (started commits moments)
+started_legal commits moments legal numbers = record { commits = legal; edits = tt; numbers = numbers; open_numbers = tt }
 
 pub goes_on_same : (course : Course) → GoesOn course course
 goes_on_same course = ([], sym (append-nil course.commits))

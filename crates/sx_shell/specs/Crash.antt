@@ -1,13 +1,12 @@
 -- What a crash leaves of a volume over which a script runs.
 use Rattle.std.specs.Prelude.{ℕ, ℤ, ◌≡◌, ◌<◌, ◌≤◌, ◌⊎◌, List, [], ◌∷◌, ◌++◌, Option, IfSome, FitsSigned, slice_set}
 use Rattle.std.specs.Int.{int_max, w64}
-use Rattle.std.specs.Option.{option_map}
 use Rattle.sx_layout.specs.Group.{Group, HasGroups, end_of, last_time}
-use Rattle.sx_layout.specs.Stands.{Stands, body_of, groups_of}
+use Rattle.sx_layout.specs.Stands.{Stands, groups_of}
 use Rattle.sx_model.specs.Commit.{Commit, first_time}
-use Rattle.sx_model.specs.Value.{number}
 use Rattle.sx_outside.specs.Clock.{Ticks}
 use Rattle.sx_run.specs.Run.{Course, next_commit}
+use Rattle.sx_shell.specs.Body.{body_of}
 use Rattle.sx_shell.specs.declared.desk.Desk.{Desk}
 use Rattle.sx_shell.specs.declared.status.Status.{Status}
 use Rattle.sx_shell.specs.declared.status.Status.TheVariants.{Done, Usage, ReadFault, WriteFault, VolumeFault, Damaged, OutOfMemory}
@@ -88,7 +87,7 @@ pub record IsUnopened (start end : Course) (status : Status) (written : List ℕ
 
 -- the group that a commit of the desk adds, with the clock at this moment
 abbrev pub next_group : Desk → ℤ → Group
-next_group desk moment = record { time = int_max moment (last_time first_time desk.log); next = desk.next; body = body_of (option_map number desk.child) }
+next_group desk moment = record { time = int_max moment (last_time first_time desk.log); next = desk.next; body = body_of desk.child }
 
 -- the image has all groups of the desk, and that of its next commit
 abbrev pub HasNext : Desk → ℤ → List ℕ → Type 0

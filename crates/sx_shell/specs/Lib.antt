@@ -1,3 +1,4 @@
+pub mod Body
 pub mod Code
 pub mod Crash
 pub mod Ends

@@ -1,7 +1,7 @@
 -- What the shell reads in a line.
 use Rattle.std.specs.Prelude.{ℕ, List}
 use Rattle.sx_model.specs.Edit.{load}
-use Rattle.sx_model.specs.Value.{number}
+use Rattle.sx_model.specs.NumberDocuments.{number}
 use Rattle.sx_run.specs.Command.{Command, Spells, edit, commit, open_number, ask_text}
 use Rattle.sx_run.specs.Line.{Item, skipped, no_command, command}
 use Rattle.sx_shell.specs.declared.line.Said.{Said}

@@ -1,25 +1,21 @@
 -- What the shell's state stands for.
-use Rattle.std.specs.Prelude.{ℕ, ℤ, ◌≡◌, ◌≢◌, ◌≤◌, List, [], Option, None, Some, length}
-use Rattle.std.specs.Option.{option_map}
+use Rattle.std.specs.Prelude.{ℕ, ℤ, ◌≡◌, ◌≤◌, List, Option, length}
 use Rattle.sx_layout.specs.Stands.{groups_of}
 use Rattle.sx_model.specs.Commit.{state_of}
-use Rattle.sx_model.specs.Value.{Value, number, text_of}
+use Rattle.sx_model.specs.NumberDocuments.{IsOfNumber}
+use Rattle.sx_model.specs.TreeText.{document_text}
 use Rattle.sx_run.specs.Run.{Course, current}
+use Rattle.sx_shell.specs.Body.{body_of}
 use Rattle.sx_shell.specs.declared.desk.Desk.{Desk}
-
--- no text is empty
-abbrev pub HasText : Option Value → Type 0
-HasText None = Unit {0}
-HasText (Some value) = text_of value ≢ []
 
 pub record Shows (desk : Desk) (course : Course) : Type 0 where
   pub groups : desk.log ≡ groups_of course.commits
-  pub child : option_map number desk.child ≡ (current course).child
+  pub child : body_of desk.child ≡ document_text (current course).trees
   pub next : desk.next ≡ (current course).next
   pub revision : desk.revision ≡ course.revision
   pub opened : course.revision ≤ length course.commits
-  pub text : HasText (current course).child
-  pub texts : (r : ℕ) → HasText (state_of course.commits r).child
+  pub number : IsOfNumber (current course)
+  pub numbers : (r : ℕ) → IsOfNumber (state_of course.commits r)
 
 -- From each course that the old desk shows there is a step to one that the new desk shows, with the clock's moments.
 abbrev pub Serves : (Course → Course → Type 0) → Option (List ℤ) → Option (List ℤ) → Desk → Desk → Type 0

@@ -1,21 +1,22 @@
 ghost use Rattle.std.specs.Prelude.{◌≡◌, ◌≢◌, ◌<◌, ◌≤◌, ◌^◌, [], ℤ, ℕ, List, Option, FitsSigned, length, IfOk, IfSome, OnOk, OnErr, IsErrOf, is_some};
 ghost use Rattle.std.specs.Int.{int_max, w64};
-ghost use Rattle.std.specs.Option.{option_map};
 ghost use Rattle.sx_layout.specs.Damage.{IsBody};
 ghost use Rattle.sx_layout.specs.Group.{last_time};
-ghost use Rattle.sx_layout.specs.Stands.{body_of, groups_of};
+ghost use Rattle.sx_layout.specs.Stands.{groups_of};
 ghost use Rattle.sx_outside.specs.Clock.{Ticks};
 ghost use Rattle.sx_model.specs.Commit.{Commit, IsLegal, first_time, replay, state_of};
 ghost use Rattle.sx_model.specs.Edit.{load};
 ghost use Rattle.sx_model.specs.State.{empty_document};
-ghost use Rattle.sx_model.specs.Value.{number};
+ghost use Rattle.sx_model.specs.NumberDocuments.{number, AreOfNumbers};
+ghost use Rattle.sx_model.specs.TreeText.{document_text};
+ghost use Rattle.sx_shell.specs.Body.{body_of};
 ghost use Rattle.sx_outside.specs.Faults.{Rose};
 ghost use Rattle.sx_log.specs.Keeps.{Keeps};
 ghost use Rattle.sx_run.specs.Command.{edit, commit, open_number, ask_text};
 ghost use Rattle.sx_run.specs.Line.{command, no_command, Says};
 ghost use Rattle.sx_run.specs.Run.{Course, Gives, Step, started};
 ghost use Rattle.sx_volume.specs.Images.{Elapses};
-ghost use Rattle.sx_tree.specs.Number.{IsNumber};
+ghost use Rattle.sx_tree.specs.Number.{IsLiteral, IsNumber};
 
 use crate::line::{Said, parse};
 use crate::reply::{Reply, render};
@@ -62,7 +63,7 @@ impl Desk {
 
     /// The desk over the commits of a log, with revision 0 open.
     pub(crate) fn new(alloc: Global, log: Log) -> Result<Self, AllocError>
-        ensures shows { IfOk result (λ desk. (commits : List Commit) (moments : Option (List ℤ)) → log ≡ groups_of commits → IsLegal commits → Shows desk (started commits moments)) }
+        ensures shows { IfOk result (λ desk. (commits : List Commit) (moments : Option (List ℤ)) → log ≡ groups_of commits → IsLegal commits → AreOfNumbers commits → Shows desk (started commits moments)) }
         ensures same_log { IfOk result (λ desk. desk.log ≡ log) }
     {
         let child = last_child(alloc, &log)?;
@@ -109,7 +110,7 @@ impl Desk {
 
     // The number becomes the Document's child, in the open edits.
     fn load(&mut self, alloc: Global, literal: Literal) -> Result<Vec<u8>, AllocError>
-        requires { literal ≢ [] }
+        requires { IsLiteral literal }
         ensures ran { IfOk result (λ reply. Steps (λ course. Gives course (command (edit (load (number literal)))) reply.items) self.old self.new) }
         ensures refused { OnErr result (self.new ≡ self.old) }
         ensures same_log { self.new.log ≡ self.old.log }
@@ -151,7 +152,7 @@ impl Desk {
 
     // The body of the revision that is open.
     fn body(&self) -> &[u8]
-        ensures { (course : Course) → Shows self.now course → result.now ≡ body_of (state_of course.commits course.revision).child }
+        ensures { (course : Course) → Shows self.now course → result.now ≡ document_text (state_of course.commits course.revision).trees }
     {
         if self.revision == 0 {
             &[]
@@ -202,7 +203,7 @@ impl Desk {
 
 // The text of the Document's child, or nothing.
 fn text_of(child: &Option<Literal>) -> &[u8]
-    ensures text { result.now ≡ body_of (option_map number child.now) }
+    ensures text { result.now ≡ body_of child.now }
     ensures short { length result.now ≤ 64 }
 {
     match child {
@@ -213,7 +214,7 @@ fn text_of(child: &Option<Literal>) -> &[u8]
 
 // What the last commit left below the Document.
 fn last_child(alloc: Global, log: &Log) -> Result<Option<Literal>, AllocError>
-    ensures { IfOk result (λ child. (commits : List Commit) → log.now ≡ groups_of commits → IsLegal commits → option_map number child ≡ (replay commits empty_document).child) }
+    ensures { IfOk result (λ child. (commits : List Commit) → log.now ≡ groups_of commits → IsLegal commits → AreOfNumbers commits → body_of child ≡ document_text (replay commits empty_document).trees) }
 {
     let count = log.count();
     if count == 0 {
@@ -224,8 +225,7 @@ fn last_child(alloc: Global, log: &Log) -> Result<Option<Literal>, AllocError>
 
 // The number of which this is the text.
 fn child_of(alloc: Global, body: &[u8]) -> Result<Option<Literal>, AllocError>
-    ensures text { IfOk result (λ child. IsBody body.now → body.now ≡ body_of (option_map number child)) }
-    ensures number { IfOk result (λ child. IfSome child IsNumber) }
+    ensures { IfOk result (λ child. IsBody body.now → body.now ≡ body_of child) }
 {
     match Literal::new(alloc, body) {
         Ok(literal) => Ok(Some(literal)),

@@ -1,30 +1,26 @@
-use Rattle.std.proofs.Common.{◌≡◌, ◌-◌, ℕ, List, Option, IfSome, arith, Result, Ok, Err, IfOk}
-use Rattle.std.specs.Option.{option_map}
+use Rattle.std.proofs.Common.{◌≡◌, ◌-◌, ℕ, List, Option, arith}
+use Rattle.std.proofs.lemmas.Result.{IfOk-weaker}
 use Rattle.sx_layout.specs.Damage.{IsBody}
 use Rattle.sx_layout.specs.Group.{Group}
-use Rattle.sx_layout.specs.Stands.{body_of, groups_of}
-use Rattle.sx_tree.specs.Number.{IsNumber}
+use Rattle.sx_layout.specs.Stands.{groups_of}
 use Rattle.sx_model.specs.Commit.{Commit, IsLegal, replay}
 use Rattle.sx_model.specs.State.{empty_document}
-use Rattle.sx_model.specs.Value.{number}
+use Rattle.sx_model.specs.NumberDocuments.{AreOfNumbers}
+use Rattle.sx_model.specs.TreeText.{document_text}
+use Rattle.sx_shell.specs.Body.{body_of}
 use Rattle.sx_shell.proofs.Starting as starting
 use Rattle.sx_shell.proofs.desk.last_child.Goals as goal
 
 pub returns-then-count-eq0 : goal.returns-then-count-eq0
-returns-then-count-eq0 c = λ commits shows legal. starting.no_child commits c.args.log.now shows (omega (arith, c.count-count.ensures.value, c.if-count-eq0.true))
-
--- on both sides of a result, one by one
-both : {T E : Type 0} (P Q R : T → Type 0) (result : Result T E) → IfOk result P → IfOk result Q → ((x : T) → P x → Q x → R x) → IfOk result R
-both P Q R (Ok x) p q step = step x p q
-both P Q R (Err e) p q step = tt
+returns-then-count-eq0 c = λ commits shows legal numbers. starting.no_child commits c.args.log.now shows (omega (arith, c.count-count.ensures.value, c.if-count-eq0.true))
 
 pub returns : goal.returns
 returns c =
     let log : List Group = c.args.log.now in
     let body : List ℕ = c.body.result.now in
-    let index : ℕ = c.count-count.result - 1 in
-    both (λ (child : Option (List ℕ)). IsBody body → body ≡ body_of (option_map number child)) (λ (child : Option (List ℕ)). IfSome child IsNumber)
-    (λ (child : Option (List ℕ)). (commits : List Commit) → log ≡ groups_of commits → IsLegal commits → option_map number child ≡ (replay commits empty_document).child)
-    c.child_of.result c.child_of.ensures.text c.child_of.ensures.number
-    (λ child is numbers. λ commits shows legal.
-    starting.last_child commits log index child body shows legal (grind (arith, c.count-count.ensures.value, c.if-count-eq0.false)) c.body.ensures is numbers)
+    IfOk-weaker c.child_of.result
+    (λ (child : Option (List ℕ)). IsBody body → body ≡ body_of child)
+    (λ (child : Option (List ℕ)). (commits : List Commit) → log ≡ groups_of commits → IsLegal commits → AreOfNumbers commits → body_of child ≡ document_text (replay commits empty_document).trees)
+    (λ child is. λ commits shows legal numbers.
+    starting.last_child commits log (c.count-count.result - 1) child body shows legal numbers (grind (arith, c.count-count.ensures.value, c.if-count-eq0.false)) c.body.ensures is)
+    c.child_of.ensures

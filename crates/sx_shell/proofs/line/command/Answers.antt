@@ -2,7 +2,7 @@ use Rattle.std.proofs.Common.{◌∙◌, ℕ, sym, subst, Option, IfNone}
 use Rattle.std.proofs.lemmas.Bool.{false≢true}
 use Rattle.std.proofs.lemmas.Slice.Eq.{bytes_eq-Decides}
 use Rattle.sx_model.specs.Edit.{load}
-use Rattle.sx_model.specs.Value.{Value}
+use Rattle.sx_tree.specs.Value.{Value}
 use Rattle.sx_run.specs.Command.{Spells, edit, open_number}
 use Rattle.sx_shell.proofs.Commands.{none_spelt, at_none}
 use Rattle.sx_shell.proofs.line.command.Goals as goal

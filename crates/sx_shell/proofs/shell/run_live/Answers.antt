@@ -74,7 +74,7 @@ returns-in_default-clause-run g c = λ image input before commits told stands le
       left,
       nothing_more before (g.K.Sink.written c.args.sink.now) written,
       ([], lines_of input, refl, (refl, refl)),
-      λ _. stands_at_end bytes (g.V.Volume.bytes c.open.new.volume) (g.V.Volume.bytes c.open.new.volume) image c.in-Ok.log commits told (told_from opened_bytes bytes (g.V.Volume.bytes c.open.new.volume) c.in-Ok.ensures.bytes) refl stands.0 c.in-Ok.ensures.kept.groups given,
+      λ _. stands_at_end bytes (g.V.Volume.bytes c.open.new.volume) (g.V.Volume.bytes c.open.new.volume) image c.in-Ok.log commits told (told_from opened_bytes bytes (g.V.Volume.bytes c.open.new.volume) c.in-Ok.ensures.bytes) refl stands.0 stands.1 c.in-Ok.ensures.kept.groups given,
       inl (safe_none start ((status.OutOfMemory ≡ status.VolumeFault) × CommitFailed start input [] start) image (g.V.Volume.moment c.args.volume.now) (g.V.Volume.moment c.open.new.volume)
           (g.V.Volume.is_image c.args.volume.now) (g.V.Volume.is_image c.open.new.volume) (g.V.Volume.was_image c.open.new.volume) (g.V.Volume.synced c.args.volume.now) (g.V.Volume.synced c.open.new.volume) stands synced (g.met.V.Volume.counts_now c.open.new.volume)),
     )
@@ -88,9 +88,9 @@ returns-clause-run g c = λ image input before commits told stands left written.
     let new : Desk = c.drive.new.desk in
     let given : c.in-Ok.log ≡ groups_of commits = at_told _ bytes image told c.in-Ok.ensures.exactly (Ok (groups_of commits)) (stands_reads image commits stands) in
     let synced = at_told _ bytes image told c.in-Ok.ensures.synced in
-    let shows = c.in-Ok-new.ensures.shows commits (g.C.Clock.moments c.args.clock.now) given stands.0 in
+    let shows = c.in-Ok-new.ensures.shows commits (g.C.Clock.moments c.args.clock.now) given stands.0 stands.1 in
     let ran = c.drive.ensures.ended.1 start input before left written shows refl in
-    let end = outcome_legal start input ran.0 c.drive.result ran.1 ran.2 ran.5 (started_legal commits (g.C.Clock.moments c.args.clock.now) stands.0) in
+    let end = outcome_legal start input ran.0 c.drive.result ran.1 ran.2 ran.5 (started_legal commits (g.C.Clock.moments c.args.clock.now) stands.0 stands.1) in
     let told_still = told_from opened_bytes bytes opened c.in-Ok.ensures.bytes in (
       ran.0,
       ran.1,
@@ -98,7 +98,7 @@ returns-clause-run g c = λ image input before commits told stands left written.
       ran.3,
       ran.4,
       ran.5,
-      λ ok. stands_at_end bytes opened (g.V.Volume.bytes c.drive.new.volume) image new.log ran.2.commits told told_still (c.drive.ensures.told ok) end.0.commits
+      λ ok. stands_at_end bytes opened (g.V.Volume.bytes c.drive.new.volume) image new.log ran.2.commits told told_still (c.drive.ensures.told ok) end.0.commits end.0.numbers
           (c.drive.ensures.kept ok).groups ran.6,
       inl (safe_run start ran.2 (c.drive.result ≡ status.VolumeFault) ((c.drive.result ≡ status.VolumeFault) × CommitFailed start input ran.1 ran.2) image
           (g.V.Volume.moment c.args.volume.now) (g.V.Volume.moment c.open.new.volume) (g.V.Volume.moment c.drive.new.volume)

@@ -1,7 +1,8 @@
 use Rattle.std.proofs.Common.{◌≡◌, ℕ, Vec, Global, refl}
 use Rattle.std.proofs.lemmas.Result.{IfOk-weaker}
-use Rattle.sx_model.specs.Edit.{load, numbers_spent}
-use Rattle.sx_model.specs.Value.{number}
+use Rattle.sx_tree.specs.declared.edit.EditRefusal.TheVariants.{NumbersSpent}
+use Rattle.sx_model.specs.Edit.{load}
+use Rattle.sx_model.specs.NumberDocuments.{number}
 use Rattle.sx_run.specs.Command.{edit}
 use Rattle.sx_run.specs.Line.{command}
 use Rattle.sx_run.specs.Reply.{reply_bytes, edit_refused}
@@ -13,7 +14,7 @@ use Rattle.sx_shell.proofs.desk.Desk.load.Goals as goal
 pub returns-then-self-ge-NUMBER_LIMIT-clause-ran : goal.returns-then-self-ge-NUMBER_LIMIT-clause-ran
 returns-then-self-ge-NUMBER_LIMIT-clause-ran c =
     IfOk-weaker c.render.result
-    (λ (reply : Vec ℕ Global). reply.items ≡ reply_bytes (edit_refused (numbers_spent c.args.self.now.next)))
+    (λ (reply : Vec ℕ Global). reply.items ≡ reply_bytes (edit_refused (NumbersSpent c.args.self.now.next)))
     (λ (reply : Vec ℕ Global). Steps (λ course. Gives course (command (edit (load (number c.args.literal)))) reply.items) c.args.self.now c.args.self.now)
     (λ reply said. λ course shows. refuses_load c.args.self.now course c.args.literal reply.items c.if-self-ge-NUMBER_LIMIT.true shows said)
     c.render.ensures
