@@ -6,3 +6,11 @@ mod ValidRows
 mod HashRows
 pub mod Holes
 pub mod NumberDocuments
+pub mod Spots
+pub mod Apart
+pub mod Plugging
+pub mod NumberedTrees
+pub mod Accepted
+pub mod Changes
+pub mod Sound
+pub mod TreeTexts

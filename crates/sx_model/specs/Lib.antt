@@ -13,6 +13,7 @@ pub mod Numbered
 pub mod Paths
 pub mod Records
 pub mod Selection
+pub mod Sound
 pub mod State
 pub mod StringFaults
 pub mod Strings

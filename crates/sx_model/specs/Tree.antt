@@ -1,10 +1,11 @@
 -- Trees of numbered nodes.
-use Rattle.std.specs.Prelude.{ℕ, suc, ◌≡◌, ◌+◌, ◌≤◌, max, ◌==◌, Bool, false, true, IsTrue, if◌then◌else◌, List, [], ◌∷◌, ◌++◌, map, Option, None, Some}
+use Rattle.std.specs.Prelude.{ℕ, suc, ◌≡◌, ◌+◌, ◌≤◌, max, ◌==◌, Bool, false, true, IsTrue, if◌then◌else◌, List, [], ◌∷◌, ◌++◌, map, length, slice_get, bytes_eq, Option, None, Some}
 use Rattle.std.specs.Option.{option_or}
 use Rattle.std.specs.List.{list_any}
 use Rattle.sx_tree.specs.declared.record.Kind.{Kind}
 use Rattle.sx_tree.specs.declared.record.Kind.TheVariants.{Document, Object, Array, Key, Str, Number, Bool as Truth, Null}
-use Rattle.sx_tree.specs.Names.{AreDistinct}
+use Rattle.sx_tree.specs.Record.{IsLabel}
+use Rattle.sx_tree.specs.Text.{IsText}
 
 pub record Node : Type 0 where
   pub number : ℕ
@@ -33,6 +34,11 @@ size (tree_then n below rest) = suc (size below) + size rest
 abbrev pub tops : Forest → List Node
 tops no_trees = []
 tops (tree_then n below rest) = n ∷ tops rest
+
+-- how many trees stand side by side
+abbrev pub count : Forest → ℕ
+count no_trees = 0
+count (tree_then n below rest) = 1 + count rest
 
 -- two lists of trees side by side
 abbrev pub beside : Forest → Forest → Forest
@@ -133,6 +139,8 @@ is_value Number = true
 is_value Truth = true
 is_value Null = true
 
+-- ---- well-formed trees
+
 -- whether a node of a kind may be a child of one of another kind: Keys below an Object, value nodes below the Document, an
 -- Array and a Key, and none below a scalar
 abbrev pub may_stand_below : Kind → Kind → Bool
@@ -145,34 +153,56 @@ may_stand_below Number child = false
 may_stand_below Truth child = false
 may_stand_below Null child = false
 
--- ---- well-formed trees
+-- the same, where only the Document may stand at the top
+abbrev pub may_stand : Option Kind → Kind → Bool
+may_stand None child = is_document child
+may_stand (Some above) child = may_stand_below above child
 
--- how many trees stand side by side
-abbrev pub count : Forest → ℕ
-count no_trees = 0
-count (tree_then n below rest) = 1 + count rest
+-- no two of them are the same
+abbrev pub AreApart : {X : Type 0} → (X → X → Bool) → List X → Type 0
+AreApart same [] = Unit {0}
+AreApart same (x ∷ xs) = (list_any (same x) xs ≡ false) × AreApart same xs
+
+-- How many children there are, where that is not free: one Document at the top, at most one child of the Document, one of a Key.
+-- An Object's Keys have distinct names.
+abbrev pub HasChildren : Option Kind → List Node → Type 0
+HasChildren None ns = length ns ≡ 1
+HasChildren (Some Document) ns = length ns ≤ 1
+HasChildren (Some Object) ns = AreApart bytes_eq (map (λ n. n.label) ns)
+HasChildren (Some Array) ns = Unit {0}
+HasChildren (Some Key) ns = length ns ≡ 1
+HasChildren (Some Str) ns = Unit {0}
+HasChildren (Some Number) ns = Unit {0}
+HasChildren (Some Truth) ns = Unit {0}
+HasChildren (Some Null) ns = Unit {0}
+
+-- the label is of the kind, and within the limits
+abbrev pub IsLabelOf : Kind → List ℕ → Type 0
+IsLabelOf Document label = IsLabel Document label
+IsLabelOf Object label = IsLabel Object label
+IsLabelOf Array label = IsLabel Array label
+IsLabelOf Key label = IsText label
+IsLabelOf Str label = IsText label
+IsLabelOf Number label = IsLabel Number label
+IsLabelOf Truth label = IsLabel Truth label
+IsLabelOf Null label = IsLabel Null label
+
+-- The trees, and all below them, may stand below a node of this kind, or at the top.
+abbrev pub FitBelow : Option Kind → Forest → Type 0
+FitBelow above no_trees = Unit {0}
+FitBelow above (tree_then n below rest) =
+    IsTrue (may_stand above n.kind) × IsLabelOf n.kind n.label × HasChildren (Some n.kind) (tops below) × FitBelow (Some n.kind) below × FitBelow above rest
 
 -- no number stands twice
 abbrev pub AreDistinctNumbers : List ℕ → Type 0
-AreDistinctNumbers [] = Unit {0}
-AreDistinctNumbers (k ∷ ks) = (list_any (λ m. k == m) ks ≡ false) × AreDistinctNumbers ks
+AreDistinctNumbers ks = AreApart (λ k m. k == m) ks
 
--- The Document has at most one child, an Object's Keys have distinct names, and a Key has one child.
-abbrev pub HasChildren : Kind → Forest → Type 0
-HasChildren Document below = count below ≤ 1
-HasChildren Object below = AreDistinct (map (λ n. n.label) (tops below))
-HasChildren Array below = Unit {0}
-HasChildren Key below = count below ≡ 1
-HasChildren Str below = Unit {0}
-HasChildren Number below = Unit {0}
-HasChildren Truth below = Unit {0}
-HasChildren Null below = Unit {0}
-
--- The trees, and all below them, may stand below a node of this kind.
-abbrev pub FitBelow : Kind → Forest → Type 0
-FitBelow kind no_trees = Unit {0}
-FitBelow kind (tree_then n below rest) =
-    IsTrue (may_stand_below kind n.kind) × HasChildren n.kind below × FitBelow n.kind below × FitBelow kind rest
+-- One Document stands at the top, whose number is 0, each node stands where it may, and no two have one number.
+pub record IsWellFormed (trees : Forest) : Type 0 where
+  pub one : HasChildren None (tops trees)
+  pub fit : FitBelow None trees
+  pub zero : slice_get (numbers trees) 0 ≡ Some 0
+  pub distinct : AreDistinctNumbers (numbers trees)
 
 abbrev pub document_node : Node
 document_node = record { number = 0; kind = Document; label = [] }
@@ -180,14 +210,6 @@ document_node = record { number = 0; kind = Document; label = [] }
 -- the tree of a document, with these trees below the Document
 abbrev pub document_with : Forest → Forest
 document_with child = tree_then document_node child no_trees
-
--- The Document stands at the top, and only there, and no two nodes have one number.
-pub record IsWellFormed (trees : Forest) : Type 0 where
-  pub child : Forest
-  pub document : trees ≡ document_with child
-  pub one : count child ≤ 1
-  pub fit : FitBelow Document child
-  pub distinct : AreDistinctNumbers (numbers trees)
 
 -- how many arrays and objects stand one below the other, at most
 abbrev pub nesting : Forest → ℕ
