@@ -151,8 +151,10 @@ fn full(alloc: Global, before: &[u8], more: &[u8]) -> Result<Bytes, AllocError> 
 
 /// What stands behind 1,048,576 letters in a string, whose opening quote stands at 1, and the fault.
 ///
-/// A lone surrogate stands for no character, so that no byte of it takes the string past the limit: its own
-/// fault is told. A letter behind a high one makes both known, and at one byte that of the surrogate is told.
+/// A lone surrogate stands for no character, so no byte of it takes the string past the limit, and its own
+/// fault is told. The letter behind a high one shows that this is alone, and would take the string past the
+/// limit: at one byte the fault of the surrogate comes first. The definition agrees, since it tells what is
+/// wrong in a piece before it counts the piece.
 #[test]
 fn full_strings(rt: HostRuntime) -> Result<(), Fail> {
     let too_long = Some(JsonFault::StringTooLong { at: 1 });
