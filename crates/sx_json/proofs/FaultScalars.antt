@@ -6,8 +6,8 @@ use Rattle.std.proofs.Math.Seq.{take-append-add, take-append_seam}
 use Rattle.sx_tree.specs.Number.{IsNumber, BeginsNumber, IsLongestFront}
 use Rattle.sx_model.specs.Grammar.{AreBlanks, Skips}
 use Rattle.sx_json.proofs.StringTexts.{tail_ascii}
-use Rattle.sx_json.proofs.Values.{blank_small}
-use Rattle.sx_json.proofs.ScalarReads.{IsNumberByte, AreNumberBytes, front_is}
+use Rattle.sx_model.proofs.FirstBytes.{blank_small}
+use Rattle.sx_model.proofs.Ends.{IsNumberByte, AreNumberBytes, front_is}
 
 blanks_keep : (blanks rest : List ℕ) → AreBlanks blanks → IsUtf8 (blanks ++ rest) → IsUtf8 rest
 blanks_keep [] rest all u = u

@@ -17,13 +17,15 @@ use Rattle.sx_model.specs.StringFaults.{unexpected, QuotedFault, QuoteFault, Fro
 use Rattle.sx_model.specs.Faults.{Next, IsFirst, IsLiteralName, WordFault, NumberFault, ScalarFault, Ends, WholeAt, ElementsFault, NewName, MemberNameFault, MembersFault, ValueFault, TextFault, Faults}
 use Rattle.sx_tree.specs.declared.json_fault.JsonFault.{JsonFault}
 use Rattle.sx_tree.specs.declared.json_fault.JsonFault.TheVariants.{BadByte, TooDeep, DuplicateName, Ended}
-use Rattle.sx_json.proofs.StringShapes.{heads, nothing_there}
-use Rattle.sx_json.proofs.OneStringFault.{string_same, quoted_not_fault, quoted_fault_same, quote_not_fault, quote_fault_same}
-use Rattle.sx_json.proofs.Values.{blank_small, First, a_string, a_number, a_true, a_false, a_null, an_array, an_object, first_of, no_value_of_nothing, no_value_from}
+use Rattle.sx_model.proofs.StringShapes.{heads, nothing_there}
+use Rattle.sx_json.proofs.OneStringFault.{quoted_not_fault, quoted_fault_same, quote_not_fault, quote_fault_same}
+use Rattle.sx_model.proofs.OneString.{string_same}
+use Rattle.sx_model.proofs.FirstBytes.{blank_small, First, a_string, a_number, a_true, a_false, a_null, an_array, an_object, first_of, no_value_of_nothing, no_value_from}
 use Rattle.sx_json.proofs.FaultScalars.{number_longest, longest_one}
-use Rattle.sx_json.proofs.FaultSteps.{next_here, next_skips, solid_from}
-use Rattle.sx_json.proofs.Blanks.{value_solid}
-use Rattle.sx_json.proofs.ScalarReads.{IsEnd, apart, AreNumberBytes-at, front_is, elements_end, members_end}
+use Rattle.sx_json.proofs.FaultSteps.{next_here, next_skips}
+use Rattle.sx_model.proofs.FirstBytes.{solid_from}
+use Rattle.sx_model.proofs.FirstBytes.{value_solid}
+use Rattle.sx_model.proofs.Ends.{IsEnd, apart, AreNumberBytes-at, front_is, elements_end, members_end}
 use Rattle.sx_json.proofs.MemberTurns.{Behind, slice_get_left, slice_get_seam}
 use Rattle.sx_tree.proofs.NameLists.{slice_get-Contains}
 

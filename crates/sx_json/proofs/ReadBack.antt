@@ -11,8 +11,8 @@ use Rattle.sx_model.specs.Grammar.{Led, NameThen, ScalarAt, ValueAt, ElementsAt,
 use Rattle.sx_model.specs.Limits.{ScalarKeepsLimits, KeepsLimits, ElementsKeepLimits, MembersKeepLimits}
 use Rattle.sx_model.specs.Strings.{TextAt}
 use Rattle.sx_tree.specs.Text.{IsText}
-use Rattle.sx_json.proofs.Values.{Led-from}
-use Rattle.sx_json.proofs.WrittenStrings.{content_spelled, IsUtf8-string_text}
+use Rattle.sx_model.proofs.FirstBytes.{Led-from}
+use Rattle.sx_model.proofs.WrittenStrings.{content_spelled, IsUtf8-string_text}
 use Rattle.sx_tree.proofs.NumberTexts.{ascii_then, IsUtf8-number}
 
 string_spelled : (content after : List ℕ) → IsText content → TextAt (flat_map escaped content ++ 34 ∷ after) content after

@@ -2,7 +2,7 @@
 use Rattle.std.proofs.Common.{◌≡◌, ℕ, ◌+◌, ◌<◌, List, [], ◌∷◌, ◌++◌, refl, ap, sym, ◌∙◌, length, take, drop, get_or, append_assoc}
 use Rattle.std.proofs.lemmas.List.{take-append-drop, take_more}
 use Rattle.sx_model.specs.Grammar.{AreBlanks, BeginsOther, IsBlank, Skips}
-use Rattle.sx_json.proofs.StringShapes.{heads}
+use Rattle.sx_model.proofs.StringShapes.{heads}
 
 AreBlanks-push : (blanks : List ℕ) (b : ℕ) → AreBlanks blanks → IsBlank b → AreBlanks (blanks ++ b ∷ [])
 AreBlanks-push [] b all one = (one, tt)
