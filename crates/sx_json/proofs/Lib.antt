@@ -13,4 +13,4 @@ pub mod FaultSteps
 pub mod OneFault
 pub mod Skipping
 pub mod Texts
-pub mod ReadBack
+pub mod Growing

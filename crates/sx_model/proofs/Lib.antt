@@ -4,3 +4,8 @@ pub mod OneString
 pub mod WrittenStrings
 pub mod FirstBytes
 pub mod Ends
+pub mod Tokens
+pub mod Within
+pub mod Shortest
+pub mod OneValue
+pub mod Spelled
