@@ -9,3 +9,4 @@ pub mod Within
 pub mod Shortest
 pub mod OneValue
 pub mod Spelled
+pub mod TextRows

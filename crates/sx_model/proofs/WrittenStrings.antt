@@ -83,11 +83,11 @@ content_spelled (byte ∷ bytes) after =
     subst (λ l. StringAt l (byte ∷ bytes) after) (sym (append_assoc (escaped byte) (flat_map escaped bytes) (34 ∷ after)))
     (one_byte byte (flat_map escaped bytes ++ 34 ∷ after) bytes after (written byte) (content_spelled bytes after))
 
-abbrev are_ascii : List ℕ → Bool
+abbrev pub are_ascii : List ℕ → Bool
 are_ascii [] = true
 are_ascii (byte ∷ bytes) = nat_lt byte 128 && are_ascii bytes
 
-utf8_of_ascii : (bytes : List ℕ) → are_ascii bytes ≡ true → IsUtf8 bytes
+pub utf8_of_ascii : (bytes : List ℕ) → are_ascii bytes ≡ true → IsUtf8 bytes
 utf8_of_ascii [] e = IsUtf8-nil
 utf8_of_ascii (byte ∷ bytes) e = let p = and_parts _ _ e in ascii_then byte bytes (ltb-true _ _ p.0) (utf8_of_ascii bytes p.1)
 
