@@ -25,7 +25,8 @@ use Rattle.sx_json.proofs.FaultScalars.{number_longest, longest_one}
 use Rattle.sx_json.proofs.FaultSteps.{next_here, next_skips}
 use Rattle.sx_model.proofs.FirstBytes.{solid_from}
 use Rattle.sx_model.proofs.FirstBytes.{value_solid}
-use Rattle.sx_model.proofs.Ends.{IsEnd, apart, AreNumberBytes-at, front_is, elements_end, members_end}
+use Rattle.sx_tree.proofs.NumberBytes.{AreNumberBytes-at, front_is}
+use Rattle.sx_model.proofs.Ends.{IsEnd, apart, elements_end, members_end}
 use Rattle.sx_json.proofs.MemberTurns.{Behind, slice_get_left, slice_get_seam}
 use Rattle.sx_tree.proofs.NameLists.{slice_get-Contains}
 

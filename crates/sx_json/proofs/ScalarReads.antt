@@ -12,7 +12,8 @@ use Rattle.sx_json.specs.declared.reader.Frame.{Frame}
 use Rattle.sx_json.specs.declared.reader.Frame.TheVariants.{Array, Member}
 use Rattle.sx_model.proofs.StringShapes.{heads, same_tail}
 use Rattle.sx_model.proofs.FirstBytes.{blank_small, Led-here, Led-from, First, a_string, a_number, a_true, a_false, a_null, an_array, an_object, first_of}
-use Rattle.sx_model.proofs.Ends.{IsEnd, elements_end, members_end, AreNumberBytes, AreNumberBytes-at, apart, front_is}
+use Rattle.sx_tree.proofs.NumberBytes.{AreNumberBytes, AreNumberBytes-at, front_is}
+use Rattle.sx_model.proofs.Ends.{IsEnd, elements_end, members_end, apart}
 use Rattle.sx_json.proofs.Turns.{Led-solid, string_read}
 
 close_first : (frames : List Frame) (room : ℕ) (x v : Value) (byte : ℕ) (rest : List ℕ) → Close frames room x v (byte ∷ rest) → IsEnd byte

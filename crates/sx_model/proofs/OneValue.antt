@@ -7,7 +7,8 @@ use Rattle.sx_model.specs.Grammar.{AreBlanks, IsSolid, Led, NameThen, ValueAt, E
 use Rattle.sx_model.proofs.StringShapes.{heads, same_tail}
 use Rattle.sx_model.proofs.OneString.{string_same}
 use Rattle.sx_model.proofs.FirstBytes.{blank_small, First, a_string, a_number, a_true, a_false, a_null, an_array, an_object, first_of, no_value_of_nothing, value_solid, solid_from, other_first, bracket_not_first}
-use Rattle.sx_model.proofs.Ends.{IsEnd, AreNumberBytes, apart, number_is, elements_end, members_end}
+use Rattle.sx_tree.proofs.NumberBytes.{AreNumberBytes, number_is}
+use Rattle.sx_model.proofs.Ends.{IsEnd, apart, elements_end, members_end}
 use Rattle.sx_model.proofs.Tokens.{Element, Member, Marked}
 
 -- ---- one place behind white space
