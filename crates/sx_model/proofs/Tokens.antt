@@ -12,7 +12,7 @@ Element v vs room left bytes = (after : List ℕ) × ValueAt v room bytes after 
 abbrev pub Member : Value → Fields → ℕ → List ℕ → List ℕ → Type 0
 Member v fs room left bytes = (after : List ℕ) × ValueAt v room bytes after × MoreMembersAt fs room after left
 
--- a byte between white space, and then what P says
+-- a byte, white space, and then what P says
 abbrev pub Marked : ℕ → (List ℕ → Type 0) → List ℕ → Type 0
 Marked mark P bytes = (behind : List ℕ) × (bytes ≡ mark ∷ behind) × Led P behind
 
