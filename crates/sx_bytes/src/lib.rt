@@ -9,6 +9,3 @@ mod fields_out;
 pub use damage::Damage;
 pub use fields::Fields;
 pub use fields_out::FieldsOut;
-
-#[cfg(test)]
-mod tests;

@@ -7,14 +7,11 @@ use Rattle.sx_json.specs.declared.reader.Frame.{Frame}
 use Rattle.sx_json.specs.declared.reader.Frame.TheVariants.{Array, Member}
 use Rattle.sx_json.specs.declared.reader.Turn.{Turn}
 use Rattle.sx_json.specs.declared.reader.Turn.TheVariants as turn
-use Rattle.sx_json.proofs.StringShapes.{heads}
-use Rattle.sx_json.proofs.Values.{blank_small, Led-blank, no_value_from, blank_not_first}
+use Rattle.sx_model.proofs.StringShapes.{heads}
+use Rattle.sx_model.proofs.FirstBytes.{blank_small, Led-blank, value_solid}
 
 solid_byte : (byte wanted : ℕ) (rest left : List ℕ) → IsBlank byte → 33 ≤ wanted → byte ∷ rest ≡ wanted ∷ left → ⊥
 solid_byte byte wanted rest left blank above e = omega (arith, blank_small byte blank, (heads byte wanted rest left e).0, above)
-
-pub value_solid : (x : Value) (room byte : ℕ) (rest left : List ℕ) → IsBlank byte → ValueAt x room (byte ∷ rest) left → ⊥
-value_solid x room byte rest left blank h = no_value_from x room byte rest left (blank_not_first byte blank) h
 
 elements : (vs : Values) (room byte : ℕ) (rest left : List ℕ) → IsBlank byte → ElementsAt vs room (byte ∷ rest) left → ElementsAt vs room rest left
 elements no_values room byte rest left blank h = Led-blank (λ b. b ≡ 93 ∷ left) byte rest (solid_byte byte 93 rest left blank (omega arith)) h

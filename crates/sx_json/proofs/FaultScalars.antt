@@ -6,8 +6,8 @@ use Rattle.std.proofs.Math.Seq.{take-append-add, take-append_seam}
 use Rattle.sx_tree.specs.Number.{IsNumber, BeginsNumber, IsLongestFront}
 use Rattle.sx_model.specs.Grammar.{AreBlanks, Skips}
 use Rattle.sx_json.proofs.StringTexts.{tail_ascii}
-use Rattle.sx_json.proofs.Values.{blank_small}
-use Rattle.sx_json.proofs.ScalarReads.{IsNumberByte, AreNumberBytes, front_is}
+use Rattle.sx_model.proofs.FirstBytes.{blank_small}
+use Rattle.sx_tree.proofs.NumberBytes.{AreNumberBytes, front_is, number_small}
 
 blanks_keep : (blanks rest : List ℕ) → AreBlanks blanks → IsUtf8 (blanks ++ rest) → IsUtf8 rest
 blanks_keep [] rest all u = u
@@ -16,14 +16,6 @@ blanks_keep (b ∷ bs) rest all u =
 
 pub skips_keep : (bytes rest : List ℕ) → Skips bytes rest → IsUtf8 bytes → IsUtf8 rest
 skips_keep bytes rest s u = blanks_keep s.0 rest s.1 (subst IsUtf8 s.2 u)
-
-number_small : (byte : ℕ) → IsNumberByte byte → byte < 128
-number_small byte (inl d) = omega (arith, d.1)
-number_small byte (inr (inl e)) = omega (arith, e)
-number_small byte (inr (inr (inl e))) = omega (arith, e)
-number_small byte (inr (inr (inr (inl e)))) = omega (arith, e)
-number_small byte (inr (inr (inr (inr (inl e))))) = omega (arith, e)
-number_small byte (inr (inr (inr (inr (inr e))))) = omega (arith, e)
 
 number_bytes_keep : (front rest : List ℕ) → AreNumberBytes front → IsUtf8 (front ++ rest) → IsUtf8 rest
 number_bytes_keep [] rest all u = u

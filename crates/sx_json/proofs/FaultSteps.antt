@@ -18,8 +18,7 @@ use Rattle.sx_json.specs.declared.reader.Frame.TheVariants.{Array, Member}
 use Rattle.sx_json.specs.declared.reader.Turn.{Turn}
 use Rattle.sx_json.specs.declared.reader.Turn.TheVariants as turn
 use Rattle.sx_json.proofs.Skipping.{skips_none}
-use Rattle.sx_json.proofs.StringShapes.{heads}
-use Rattle.sx_json.proofs.Values.{blank_small, Led-from}
+use Rattle.sx_model.proofs.FirstBytes.{Led-from, solid_from}
 use Rattle.sx_json.proofs.MemberTurns.{Behind, Colon, Led-blanks-from}
 use Rattle.sx_json.proofs.Steps.{reverse_push, length_pushed}
 
@@ -43,9 +42,6 @@ next_at P bytes solid n = subst P (skips_solid bytes n.0 solid n.1) n.3
 
 led_skips : (P : List ℕ → Type 0) (bytes rest : List ℕ) → Skips bytes rest → Led P rest → Led P bytes
 led_skips P bytes rest s p = subst (Led P) (sym s.2) (Led-blanks-from P s.0 rest s.1 p)
-
-pub solid_from : (byte : ℕ) (bytes rest : List ℕ) → 33 ≤ byte → bytes ≡ byte ∷ rest → IsSolid bytes
-solid_from byte bytes rest above is b tail e blank = omega (arith, (heads b byte tail rest (sym e ∙ is)).0, blank_small b blank, above)
 
 elements_skip : (vs : Values) (room : ℕ) (bytes rest left : List ℕ) → Skips bytes rest → ElementsAt vs room rest left → ElementsAt vs room bytes left
 elements_skip no_values room bytes rest left s h = led_skips (λ b. b ≡ 93 ∷ left) bytes rest s h

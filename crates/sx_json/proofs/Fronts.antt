@@ -2,21 +2,19 @@
 use Rattle.std.proofs.Common.{◌≡◌, ℕ, ◌+◌, ◌-◌, ◌≤◌, ◌<◌, ◌⊎◌, inl, inr, List, [], ◌∷◌, ◌++◌, refl, ap, sym, ◌∙◌, subst, arith, append_assoc, length, take, drop, get_or, IsUtf8, encode_utf8}
 use Rattle.std.proofs.lemmas.Bool.{cases_lt}
 use Rattle.std.proofs.lemmas.List.{append-nil, length-append, take-append-drop}
-use Rattle.std.proofs.lemmas.Str.{encode_ascii, length-encode, len_utf8_bounds, IsUtf8-append, IsUtf8-take, IsUtf8-drop, IsUtf8-encode, IsUtf8-nil, IsCharBoundary-start, IsCharBoundary-from_take}
+use Rattle.std.proofs.lemmas.Str.{length-encode, len_utf8_bounds, IsUtf8-append, IsUtf8-take, IsUtf8-drop, IsUtf8-encode, IsUtf8-nil, IsCharBoundary-start, IsCharBoundary-from_take}
 use Rattle.std.proofs.Math.Seq.{take-append_seam, take-append-add, drop-append_seam, get_or-append_seam}
-use Rattle.std.proofs.Math.Utf8.{low_scalar}
 use Rattle.std.specs.Char.{IsScalar}
 use Rattle.std.specs.Str.{IsValidUpTo, IsCharBoundary}
 use Rattle.sx_model.specs.Strings.{UnitAt, StringAt, TextAt, closing}
 use Rattle.sx_model.specs.StringFaults.{UnicodeAt, EscapeAt, PieceAt, FrontFault}
 use Rattle.sx_model.specs.Front.{IsStringFront}
 use Rattle.sx_tree.specs.declared.json_fault.JsonFault.{JsonFault}
-use Rattle.sx_json.proofs.StringShapes.{heads, short_small, piece_then}
+use Rattle.sx_tree.proofs.NumberTexts.{ascii_then}
+use Rattle.sx_model.proofs.StringShapes.{heads, short_small, piece_then}
 use Rattle.sx_json.proofs.StringTexts.{hex_small, escape_scalar}
-use Rattle.sx_json.proofs.OneStringFault.{Chain, ends, goes, chain_of, string_same, quote_not_fault}
-
-ascii_cons : (b : ℕ) (rest : List ℕ) → b < 128 → IsUtf8 rest → IsUtf8 (b ∷ rest)
-ascii_cons b rest small u = IsUtf8-append (b ∷ []) rest (subst IsUtf8 (encode_ascii b small) (IsUtf8-encode b (low_scalar b (omega arith)))) u
+use Rattle.sx_json.proofs.OneStringFault.{quote_not_fault}
+use Rattle.sx_model.proofs.OneString.{Chain, ends, goes, chain_of, string_same}
 
 -- A text with a character in it is a text before and behind it.
 split_char : (xs ys : List ℕ) (c : ℕ) → IsScalar c → IsUtf8 (xs ++ (encode_utf8 c ++ ys)) → IsUtf8 xs × IsUtf8 ys
@@ -59,7 +57,7 @@ unit_raw bytes unit after u = (
     unit_is = u.unit_is;
     bytes_are = refl;
   },
-  λ tail t. ascii_cons u.a _ (hex_small u.a u.x u.a_is) (ascii_cons u.b _ (hex_small u.b u.y u.b_is) (ascii_cons u.c _ (hex_small u.c u.z u.c_is) (ascii_cons u.d tail (hex_small u.d u.w u.d_is) t))),
+  λ tail t. ascii_then u.a _ (hex_small u.a u.x u.a_is) (ascii_then u.b _ (hex_small u.b u.y u.b_is) (ascii_then u.c _ (hex_small u.c u.z u.c_is) (ascii_then u.d tail (hex_small u.d u.w u.d_is) t))),
 )
 
 unicode_raw : (bytes : List ℕ) (character : ℕ) (after : List ℕ) → UnicodeAt bytes character after → Raw (λ b a. UnicodeAt b character a) bytes after
@@ -72,14 +70,14 @@ unicode_raw bytes character after (inr (high, middle, low, unit, is_high, at, is
       r.1 ∙ ap (λ l. r.0 ++ l) (at.1 ∙ ap (λ l. 92 ∷ 117 ∷ l) q.1) ∙ sym (append_assoc r.0 (92 ∷ 117 ∷ q.0) after),
       λ tail. inr
           (high, 92 ∷ 117 ∷ (q.0 ++ tail), low, subst (λ b. UnitAt b high (92 ∷ 117 ∷ (q.0 ++ tail))) (sym (append_assoc r.0 (92 ∷ 117 ∷ q.0) tail)) (r.2 (92 ∷ 117 ∷ (q.0 ++ tail))), is_high, (q.0 ++ tail, refl, q.2 tail, at.3), is),
-      λ tail t. subst IsUtf8 (sym (append_assoc r.0 (92 ∷ 117 ∷ q.0) tail)) (r.3 (92 ∷ 117 ∷ (q.0 ++ tail)) (ascii_cons 92 (117 ∷ (q.0 ++ tail)) (omega arith) (ascii_cons 117 (q.0 ++ tail) (omega arith) (q.3 tail t)))),
+      λ tail t. subst IsUtf8 (sym (append_assoc r.0 (92 ∷ 117 ∷ q.0) tail)) (r.3 (92 ∷ 117 ∷ (q.0 ++ tail)) (ascii_then 92 (117 ∷ (q.0 ++ tail)) (omega arith) (ascii_then 117 (q.0 ++ tail) (omega arith) (q.3 tail t)))),
     )
 
 escape_raw : (bytes : List ℕ) (character : ℕ) (after : List ℕ) → EscapeAt bytes character after → Raw (λ b a. EscapeAt b character a) bytes after
 escape_raw [] character after h = absurd h
-escape_raw (letter ∷ bytes) character after (inl p) = (letter ∷ [], ap (λ l. letter ∷ l) p.1, λ tail. inl (p.0, refl), λ tail t. ascii_cons letter tail (short_small letter character p.0).0 t)
+escape_raw (letter ∷ bytes) character after (inl p) = (letter ∷ [], ap (λ l. letter ∷ l) p.1, λ tail. inl (p.0, refl), λ tail t. ascii_then letter tail (short_small letter character p.0).0 t)
 escape_raw (letter ∷ bytes) character after (inr p) =
-    let r = unicode_raw bytes character after p.1 in (letter ∷ r.0, ap (λ l. letter ∷ l) r.1, λ tail. inr (p.0, r.2 tail), λ tail t. ascii_cons letter (r.0 ++ tail) (omega (arith, p.0)) (r.3 tail t))
+    let r = unicode_raw bytes character after p.1 in (letter ∷ r.0, ap (λ l. letter ∷ l) r.1, λ tail. inr (p.0, r.2 tail), λ tail t. ascii_then letter (r.0 ++ tail) (omega (arith, p.0)) (r.3 tail t))
 
 -- what is in UTF-8 with the first stays so with the second
 abbrev Serves : List ℕ → List ℕ → Type 0
@@ -101,7 +99,7 @@ piece_raw (byte ∷ bytes) x after (inr (is, character, escape, stands)) =
       λ got done serves t u.
           let parts = split_char got t character (escape_scalar bytes character after escape) (subst IsUtf8 (ap (λ y. (got ++ y) ++ t) stands ∙ append_assoc got (encode_utf8 character) t) u) in
           let before : IsUtf8 done = subst IsUtf8 (append-nil done) (serves [] (subst IsUtf8 (sym (append-nil got)) parts.0)) in
-          subst IsUtf8 (sym (append_assoc done (byte ∷ r.0) t)) (IsUtf8-append done (byte ∷ (r.0 ++ t)) before (ascii_cons byte (r.0 ++ t) (omega (arith, is)) (r.3 t parts.1))),
+          subst IsUtf8 (sym (append_assoc done (byte ∷ r.0) t)) (IsUtf8-append done (byte ∷ (r.0 ++ t)) before (ascii_then byte (r.0 ++ t) (omega (arith, is)) (r.3 t parts.1))),
     )
 
 -- What stands for the content, and whatever follows it.
@@ -133,7 +131,7 @@ front_within : (text content : List ℕ) (used valid : ℕ) → IsValidUpTo text
 front_within text content used valid up (inside, left, at, s, counted) =
     let r = string_raw inside content left (chain_of inside content left s.0) in
     let raw : IsUtf8 r.0 = r.3 [] [] (λ t u. u) s.1.0 in
-    let front : IsUtf8 ((34 ∷ r.0) ++ 34 ∷ []) = ascii_cons 34 (r.0 ++ 34 ∷ []) (omega arith) (IsUtf8-append r.0 (34 ∷ []) raw (ascii_cons 34 [] (omega arith) IsUtf8-nil)) in
+    let front : IsUtf8 ((34 ∷ r.0) ++ 34 ∷ []) = ascii_then 34 (r.0 ++ 34 ∷ []) (omega arith) (IsUtf8-append r.0 (34 ∷ []) raw (ascii_then 34 [] (omega arith) IsUtf8-nil)) in
     let whole : text ≡ ((34 ∷ r.0) ++ 34 ∷ []) ++ left = at ∙ ap (λ l. 34 ∷ l) (r.1 ∙ sym (append_assoc r.0 (34 ∷ []) left)) in
     by_cases r.0 ((34 ∷ r.0) ++ 34 ∷ []) refl front whole (r.2 (take (valid - length ((34 ∷ r.0) ++ 34 ∷ [])) left)) (cases_lt valid (length ((34 ∷ r.0) ++ 34 ∷ [])))
   where

@@ -1,11 +1,8 @@
 pub mod Writing
-pub mod Units
-pub mod StringShapes
 pub mod StringTexts
 pub mod Results
 pub mod OneStringFault
 pub mod Fronts
-pub mod Values
 pub mod Turns
 pub mod MemberTurns
 pub mod Blanks
@@ -16,5 +13,4 @@ pub mod FaultSteps
 pub mod OneFault
 pub mod Skipping
 pub mod Texts
-pub mod WrittenStrings
-pub mod ReadBack
+pub mod Growing

@@ -9,8 +9,8 @@ use Rattle.sx_model.specs.Grammar.{IsBlank, AreBlanks, Led, NameThen, ValueAt, M
 use Rattle.sx_json.specs.Frames.{Close, Awaits, AwaitsMembers, AwaitsName, append_fields}
 use Rattle.sx_json.specs.declared.reader.Frame.{Frame}
 use Rattle.sx_json.specs.declared.reader.Frame.TheVariants.{Member}
-use Rattle.sx_json.proofs.StringShapes.{heads, nothing_there}
-use Rattle.sx_json.proofs.Values.{blank_small, Led-here}
+use Rattle.sx_model.proofs.StringShapes.{heads, nothing_there}
+use Rattle.sx_model.proofs.FirstBytes.{blank_small, Led-here}
 use Rattle.sx_json.proofs.Turns.{Led-pull, Led-push, Led-solid}
 
 -- what stands behind a name's colon

@@ -5,7 +5,8 @@ use Rattle.std.proofs.lemmas.Str.{utf8_valid_len-IsValidUpTo}
 use Rattle.std.specs.Str.{IsValidUpTo}
 use Rattle.std.proofs.lemmas.Bool.{cases_lt, cases_order}
 use Rattle.std.proofs.Math.Seq.{take-append_seam, drop-append_seam}
-use Rattle.sx_json.proofs.Skipping.{same_tail, word_differs}
+use Rattle.sx_json.proofs.Skipping.{word_differs}
+use Rattle.sx_model.proofs.StringShapes.{same_tail, heads, nothing_there}
 use Rattle.std.proofs.lemmas.Option.{slice_get_within}
 use Rattle.sx_tree.specs.declared.json.Scalar.TheVariants.{Str, Number, Bool, Null}
 use Rattle.sx_tree.specs.Names.{AreDistinct}
@@ -17,13 +18,15 @@ use Rattle.sx_model.specs.StringFaults.{unexpected, QuotedFault, QuoteFault, Fro
 use Rattle.sx_model.specs.Faults.{Next, IsFirst, IsLiteralName, WordFault, NumberFault, ScalarFault, Ends, WholeAt, ElementsFault, NewName, MemberNameFault, MembersFault, ValueFault, TextFault, Faults}
 use Rattle.sx_tree.specs.declared.json_fault.JsonFault.{JsonFault}
 use Rattle.sx_tree.specs.declared.json_fault.JsonFault.TheVariants.{BadByte, TooDeep, DuplicateName, Ended}
-use Rattle.sx_json.proofs.StringShapes.{heads, nothing_there}
-use Rattle.sx_json.proofs.OneStringFault.{string_same, quoted_not_fault, quoted_fault_same, quote_not_fault, quote_fault_same}
-use Rattle.sx_json.proofs.Values.{blank_small, First, a_string, a_number, a_true, a_false, a_null, an_array, an_object, first_of, no_value_of_nothing, no_value_from}
+use Rattle.sx_json.proofs.OneStringFault.{quoted_not_fault, quoted_fault_same, quote_not_fault, quote_fault_same}
+use Rattle.sx_model.proofs.OneString.{string_same}
+use Rattle.sx_model.proofs.FirstBytes.{blank_small, First, a_string, a_number, a_true, a_false, a_null, an_array, an_object, first_of, no_value_of_nothing, other_first, bracket_not_first}
 use Rattle.sx_json.proofs.FaultScalars.{number_longest, longest_one}
-use Rattle.sx_json.proofs.FaultSteps.{next_here, next_skips, solid_from}
-use Rattle.sx_json.proofs.Blanks.{value_solid}
-use Rattle.sx_json.proofs.ScalarReads.{IsEnd, apart, AreNumberBytes-at, front_is, elements_end, members_end}
+use Rattle.sx_json.proofs.FaultSteps.{next_here, next_skips}
+use Rattle.sx_model.proofs.FirstBytes.{solid_from}
+use Rattle.sx_model.proofs.FirstBytes.{value_solid}
+use Rattle.sx_tree.proofs.NumberBytes.{AreNumberBytes-at, front_is}
+use Rattle.sx_model.proofs.Ends.{IsEnd, apart, elements_end, members_end}
 use Rattle.sx_json.proofs.MemberTurns.{Behind, slice_get_left, slice_get_seam}
 use Rattle.sx_tree.proofs.NameLists.{slice_get-Contains}
 
@@ -264,19 +267,6 @@ list_one closing P rest out other f h k = next_one (Listed closing P out) (Liste
     by_cases b (inl p) (inr q) = absurd (q.0 p.0 p.1)
     by_cases b (inr p) (inl q) = absurd (p.0 q.0 q.1)
     by_cases b (inr p) (inr q) = f p.1 q.1 b p.2 q.2
-
-other_first : (v : Value) (room closing : ℕ) (b after : List ℕ) → (IsFirst closing → ⊥) → ValueAt v room b after → BeginsOther closing b
-other_first v room closing b after none h rest is = no_value_from v room closing rest after none (subst (λ l. ValueAt v room l after) is h)
-
-bracket_not_first : IsFirst 93 → ⊥
-bracket_not_first (inl e) = omega (arith, e)
-bracket_not_first (inr (inl (inl e))) = omega (arith, e)
-bracket_not_first (inr (inl (inr d))) = omega (arith, d.1)
-bracket_not_first (inr (inr (inl e))) = omega (arith, e)
-bracket_not_first (inr (inr (inr (inl e)))) = omega (arith, e)
-bracket_not_first (inr (inr (inr (inr (inl e))))) = omega (arith, e)
-bracket_not_first (inr (inr (inr (inr (inr (inl e)))))) = omega (arith, e)
-bracket_not_first (inr (inr (inr (inr (inr (inr e)))))) = omega (arith, e)
 
 next_pair : (P Q : List ℕ → Type 0) (bytes : List ℕ) → Next P bytes → Next Q bytes → Next (λ b. P b × Q b) bytes
 next_pair P Q bytes n m = (n.0, n.1, n.2, (n.3, subst Q (skips_same bytes m.0 n.0 m.1 m.2 n.1 n.2) m.3))

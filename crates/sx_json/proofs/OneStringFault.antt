@@ -1,16 +1,14 @@
 -- A string has at most one fault, and none where it is whole.
-use Rattle.std.proofs.Common.{◌≡◌, ◌==◌, ℕ, zero, suc, ◌+◌, ◌-◌, ◌≤◌, ◌<◌, ◌⊎◌, inl, inr, List, [], ◌∷◌, ◌++◌, refl, ap, sym, ◌∙◌, subst, arith, length, encode_utf8, if◌then◌else◌}
+use Rattle.std.proofs.Common.{◌≡◌, ℕ, zero, suc, ◌+◌, ◌-◌, ◌≤◌, inl, inr, List, [], ◌∷◌, ◌++◌, refl, ap, sym, ◌∙◌, subst, arith, length}
 use Rattle.std.proofs.lemmas.List.{append-nil, length-append}
-use Rattle.std.proofs.lemmas.Str.{encode_ascii}
-use Rattle.std.proofs.Math.Utf8.{scalar_cases}
-use Rattle.std.specs.Char.{IsScalar}
-use Rattle.sx_model.specs.Strings.{IsShortEscape, DigitAt, UnitAt, LowAt, IsLowSurrogate, pair_char, StringAt, TextAt, closing, plain, short, unicode, pair}
+use Rattle.sx_model.specs.Strings.{DigitAt, UnitAt, LowAt, IsLowSurrogate, StringAt, TextAt, closing}
 use Rattle.sx_model.specs.StringFaults.{UnicodeAt, EscapeAt, PieceAt, DigitsFault, LowEscapeFault, LowFault, UnicodeFault, EscapeFault, PieceFault, QuotedFault, QuoteFault, StringFault, in_piece, too_long, behind}
 use Rattle.sx_tree.specs.Text.{IsText}
 use Rattle.sx_tree.specs.declared.json_fault.JsonFault.{JsonFault}
 use Rattle.sx_json.specs.Reading.{ReadsText}
-use Rattle.sx_json.proofs.Units.{DigitAt-same, first_digit, unit_same}
-use Rattle.sx_json.proofs.StringShapes.{heads, seconds, short_small}
+use Rattle.sx_model.proofs.Units.{DigitAt-same, first_digit, unit_same}
+use Rattle.sx_model.proofs.StringShapes.{heads}
+use Rattle.sx_model.proofs.OneString.{short_not_u, not_u, scalar_or, piece_same, Chain, ends, goes, chain_of, no_piece_at_quote, string_same}
 
 digits_step : (end count : ℕ) (bytes left : List ℕ) (digit : ℕ) (f : JsonFault) → DigitAt bytes digit left → DigitsFault end (suc count) bytes f → DigitsFault end count left f
 digits_step end count bytes left digit f at (inl h) = absurd (h.0 digit left at)
@@ -27,46 +25,6 @@ digits_fault_same end zero bytes f g h k = absurd h
 digits_fault_same end (suc count) bytes f g (inl h) (inl k) = h.1 ∙ sym k.1
 digits_fault_same end (suc count) bytes f g (inl h) (inr k) = absurd (h.0 k.0 k.1 k.2)
 digits_fault_same end (suc count) bytes f g (inr h) k = digits_fault_same end count h.1 f g h.3 (digits_step end count bytes h.1 h.0 g h.2 k)
-
--- what the letter of a short escape stands for
-short_value : ℕ → ℕ
-short_value letter = if letter == 98 then 8 else (if letter == 102 then 12 else (if letter == 110 then 10 else (if letter == 114 then 13 else (if letter == 116 then 9 else letter))))
-
-short_is : (letter byte : ℕ) → IsShortEscape letter byte → byte ≡ short_value letter
-unfolding short_value
-short_is letter byte (inl e) = rw e.0 e.1
-short_is letter byte (inr (inl e)) = rw e.0 e.1
-short_is letter byte (inr (inr (inl e))) = rw e.0 e.1
-short_is letter byte (inr (inr (inr (inl e)))) = rw e.0 e.1
-short_is letter byte (inr (inr (inr (inr (inl e))))) = rw e.0 e.1
-short_is letter byte (inr (inr (inr (inr (inr (inl e)))))) = rw e.0 e.1
-short_is letter byte (inr (inr (inr (inr (inr (inr (inl e))))))) = rw e.0 e.1
-short_is letter byte (inr (inr (inr (inr (inr (inr (inr e))))))) = rw e.0 e.1
-
-short_not_u : (byte : ℕ) → IsShortEscape 117 byte → ⊥
-short_not_u byte (inl e) = omega (arith, e.0)
-short_not_u byte (inr (inl e)) = omega (arith, e.0)
-short_not_u byte (inr (inr (inl e))) = omega (arith, e.0)
-short_not_u byte (inr (inr (inr (inl e)))) = omega (arith, e.0)
-short_not_u byte (inr (inr (inr (inr (inl e))))) = omega (arith, e.0)
-short_not_u byte (inr (inr (inr (inr (inr (inl e)))))) = omega (arith, e.0)
-short_not_u byte (inr (inr (inr (inr (inr (inr (inl e))))))) = omega (arith, e.0)
-short_not_u byte (inr (inr (inr (inr (inr (inr (inr e))))))) = omega (arith, e.0)
-
-not_u : (letter byte : ℕ) → letter ≡ 117 → IsShortEscape letter byte → ⊥
-not_u letter byte is h = short_not_u byte (subst (λ l. IsShortEscape l byte) is h)
-
-scalar_or : (u : ℕ) → IsScalar u → 0xD800 ≤ u → u ≤ 0xDFFF → ⊥
-scalar_or u s above below = by_cases (scalar_cases u s)
-  where
-    by_cases : (u < 55296) ⊎ ((57344 ≤ u) × (u < 1114112)) → ⊥
-    by_cases (inl h) = omega arith
-    by_cases (inr h) = omega (arith, h.0)
-
--- the low surrogate behind a high one
-low_same : (bytes : List ℕ) (u v : ℕ) (a b : List ℕ) → LowAt bytes u a → LowAt bytes v b → (u ≡ v) × (a ≡ b)
-low_same bytes u v a b p q =
-    let same : p.0 ≡ q.0 = (seconds 92 117 92 117 p.0 q.0 (sym p.1 ∙ q.1)).2 in unit_same p.0 u v a b p.2 (subst (λ m. UnitAt m v b) (sym same) q.2)
 
 low_not_fault : (end start : ℕ) (bytes : List ℕ) (u : ℕ) (a : List ℕ) (f : JsonFault) → LowAt bytes u a → LowFault end start bytes f → ⊥
 low_not_fault end start bytes u a f p h = by_cases (subst (λ b. LowFault end start b f) p.1 h)
@@ -110,18 +68,6 @@ low_fault_same end start (byte ∷ bytes) f g (inr (inr h)) (inl k) = absurd (om
 low_fault_same end start (byte ∷ bytes) f g (inr (inr h)) (inr (inl k)) = absurd (k.1 h.0)
 low_fault_same end start (byte ∷ bytes) f g (inr (inr h)) (inr (inr k)) = low_escape_fault_same end start bytes f g h.1 k.1
 
--- what stands behind `\u`
-unicode_same : (bytes : List ℕ) (c d : ℕ) (a b : List ℕ) → UnicodeAt bytes c a → UnicodeAt bytes d b → (c ≡ d) × (a ≡ b)
-unicode_same bytes c d a b (inl p) (inl q) = unit_same bytes c d a b p.0 q.0
-unicode_same bytes c d a b (inl p) (inr q) =
-    let same = unit_same bytes c q.0 a q.1 p.0 q.3 in absurd (scalar_or c p.1 (omega (arith, same.0, q.4.0)) (omega (arith, same.0, q.4.1)))
-unicode_same bytes c d a b (inr p) (inl q) =
-    let same = unit_same bytes d p.0 b p.1 q.0 p.3 in absurd (scalar_or d q.1 (omega (arith, same.0, p.4.0)) (omega (arith, same.0, p.4.1)))
-unicode_same bytes c d a b (inr p) (inr q) =
-    let same = unit_same bytes p.0 q.0 p.1 q.1 p.3 q.3 in
-    let lows = low_same p.1 p.2 q.2 a b p.5 (subst (λ m. LowAt m q.2 b) (sym same.1) q.5) in
-    (p.6 ∙ ap (λ h. pair_char h p.2) same.0 ∙ ap (pair_char q.0) lows.0 ∙ sym q.6, lows.1)
-
 unicode_not_fault : (end start : ℕ) (bytes : List ℕ) (c : ℕ) (a : List ℕ) (f : JsonFault) → UnicodeAt bytes c a → UnicodeFault end start bytes f → ⊥
 unicode_not_fault end start bytes c a f (inl p) (inl h) = unit_not_fault end bytes c a f p.0 h
 unicode_not_fault end start bytes c a f (inl p) (inr (unit, left, at, inl h)) =
@@ -146,14 +92,6 @@ unicode_fault_same end start bytes f g (inr (u, a, p, inr h)) (inr (v, b, q, inl
 unicode_fault_same end start bytes f g (inr (u, a, p, inr h)) (inr (v, b, q, inr k)) =
     low_fault_same end start a f g h.1 (subst (λ l. LowFault end start l g) (sym (unit_same bytes u v a b p q).1) k.1)
 
--- an escape
-escape_same : (bytes : List ℕ) (c d : ℕ) (a b : List ℕ) → EscapeAt bytes c a → EscapeAt bytes d b → (c ≡ d) × (a ≡ b)
-escape_same [] c d a b p q = absurd p
-escape_same (letter ∷ bytes) c d a b (inl p) (inl q) = (short_is letter c p.0 ∙ sym (short_is letter d q.0), sym p.1 ∙ q.1)
-escape_same (letter ∷ bytes) c d a b (inl p) (inr q) = absurd (not_u letter c q.0 p.0)
-escape_same (letter ∷ bytes) c d a b (inr p) (inl q) = absurd (not_u letter d p.0 q.0)
-escape_same (letter ∷ bytes) c d a b (inr p) (inr q) = unicode_same bytes c d a b p.1 q.1
-
 escape_not_fault : (end start : ℕ) (bytes : List ℕ) (c : ℕ) (a : List ℕ) (f : JsonFault) → EscapeAt bytes c a → EscapeFault end start bytes f → ⊥
 escape_not_fault end start [] c a f p h = p
 escape_not_fault end start (letter ∷ bytes) c a f (inl p) (inl h) = h.0.1 c p.0
@@ -167,15 +105,6 @@ escape_fault_same end start (letter ∷ bytes) f g (inl h) (inl k) = h.1 ∙ sym
 escape_fault_same end start (letter ∷ bytes) f g (inl h) (inr k) = absurd (h.0.0 k.0)
 escape_fault_same end start (letter ∷ bytes) f g (inr h) (inl k) = absurd (k.0.0 h.0)
 escape_fault_same end start (letter ∷ bytes) f g (inr h) (inr k) = unicode_fault_same end start bytes f g h.1 k.1
-
--- a piece
-piece_same : (bytes x y a b : List ℕ) → PieceAt bytes x a → PieceAt bytes y b → (x ≡ y) × (a ≡ b)
-piece_same [] x y a b p q = absurd p
-piece_same (byte ∷ bytes) x y a b (inl p) (inl q) = (p.1 ∙ sym q.1, sym p.2 ∙ q.2)
-piece_same (byte ∷ bytes) x y a b (inl p) (inr q) = absurd (p.0.2 q.0)
-piece_same (byte ∷ bytes) x y a b (inr p) (inl q) = absurd (q.0.2 p.0)
-piece_same (byte ∷ bytes) x y a b (inr p) (inr q) =
-    let same = escape_same bytes p.1 q.1 a b p.2 q.2 in (p.3 ∙ ap encode_utf8 same.0 ∙ sym q.3, same.1)
 
 piece_not_fault : (end : ℕ) (bytes x a : List ℕ) (f : JsonFault) → PieceAt bytes x a → PieceFault end bytes f → ⊥
 piece_not_fault end [] x a f p h = p
@@ -191,48 +120,12 @@ piece_fault_same end (byte ∷ bytes) f g (inl h) (inr k) = absurd (omega (arith
 piece_fault_same end (byte ∷ bytes) f g (inr h) (inl k) = absurd (omega (arith, h.0, k.0))
 piece_fault_same end (byte ∷ bytes) f g (inr h) (inr k) = escape_fault_same end (end - length (byte ∷ bytes)) bytes f g h.1 k.1
 
--- a string, piece by piece
-pub data Chain : List ℕ → List ℕ → List ℕ → Type 0 where
-  ends : (bytes content left : List ℕ) → bytes ≡ 34 ∷ left → content ≡ [] → Chain bytes content left
-  goes : (bytes content left x after more : List ℕ) → PieceAt bytes x after → Chain after more left → content ≡ x ++ more → Chain bytes content left
-
-pub chain_of : (bytes content left : List ℕ) → StringAt bytes content left → Chain bytes content left
-chain_of bytes content left (closing l) = ends (34 ∷ l) [] l refl refl
-chain_of bytes content left (plain byte rest c l p s) = goes (byte ∷ rest) (byte ∷ c) l (byte ∷ []) rest c (inl (p, refl, refl)) (chain_of rest c l s) refl
-chain_of bytes content left (short letter byte rest c l p s) =
-    goes (92 ∷ letter ∷ rest) (byte ∷ c) l (byte ∷ []) rest c (inr (refl, byte, inl (p, refl), sym (encode_ascii byte (short_small letter byte p).1))) (chain_of rest c l s) refl
-chain_of bytes content left (unicode rest unit after c l u p s) =
-    goes (92 ∷ 117 ∷ rest) (encode_utf8 unit ++ c) l (encode_utf8 unit) after c (inr (refl, unit, inr (refl, inl (u, p)), refl)) (chain_of after c l s) refl
-chain_of bytes content left (pair rest high middle low after c l u p v q s) =
-    goes (92 ∷ 117 ∷ rest) (encode_utf8 (pair_char high low) ++ c) l (encode_utf8 (pair_char high low)) after c
-    (inr (refl, pair_char high low, inr (refl, inr (high, 92 ∷ 117 ∷ middle, low, u, p, (middle, refl, v, q), refl)), refl)) (chain_of after c l s) refl
-
-no_piece_at_quote : (bytes rest x a : List ℕ) → bytes ≡ 34 ∷ rest → PieceAt bytes x a → ⊥
-no_piece_at_quote bytes rest x a is p = by_cases (subst (λ b. PieceAt b x a) is p)
-  where
-    by_cases : PieceAt (34 ∷ rest) x a → ⊥
-    by_cases (inl q) = q.0.1 refl
-    by_cases (inr q) = omega (arith, q.0)
-
 no_fault_at_quote : (end : ℕ) (bytes rest : List ℕ) (f : JsonFault) → bytes ≡ 34 ∷ rest → PieceFault end bytes f → ⊥
 no_fault_at_quote end bytes rest f is h = by_cases (subst (λ b. PieceFault end b f) is h)
   where
     by_cases : PieceFault end (34 ∷ rest) f → ⊥
     by_cases (inl k) = omega (arith, k.0)
     by_cases (inr k) = omega (arith, k.0)
-
-chain_same : (bytes c d l m : List ℕ) → Chain bytes c l → Chain bytes d m → (c ≡ d) × (l ≡ m)
-chain_same bytes c d l m (ends b c' l' is none) (ends b' d' m' at empty) = (none ∙ sym empty, (heads 34 34 l m (sym is ∙ at)).1)
-chain_same bytes c d l m (ends b c' l' is none) (goes b' d' m' y a more q t at) = absurd (no_piece_at_quote bytes l y a is q)
-chain_same bytes c d l m (goes b c' l' x a more p s is) (ends b' d' m' at empty) = absurd (no_piece_at_quote bytes m x a at p)
-chain_same bytes c d l m (goes b c' l' x a more p s is) (goes b' d' m' y z rest q t at) =
-    let same = piece_same bytes x y a z p q in
-    let tails = chain_same a more rest l m s (subst (λ r. Chain r rest m) (sym same.1) t) in
-    (is ∙ ap (λ w. w ++ more) same.0 ∙ ap (λ w. y ++ w) tails.0 ∙ sym at, tails.1)
-
--- Two strings at the front of the bytes are one.
-pub string_same : (bytes c d l m : List ℕ) → StringAt bytes c l → StringAt bytes d m → (c ≡ d) × (l ≡ m)
-string_same bytes c d l m s t = chain_same bytes c d l m (chain_of bytes c l s) (chain_of bytes d m t)
 
 chain_not_fault : (end start count : ℕ) (bytes c l : List ℕ) (f : JsonFault) → Chain bytes c l → StringFault end start count bytes f → count + length c ≤ 1_048_576 → ⊥
 chain_not_fault end start count bytes c l f (ends b c' l' is none) (in_piece k b' g h) fits = no_fault_at_quote end bytes l f is h

@@ -3,125 +3,23 @@ use Rattle.std.proofs.Common.{◌≡◌, ℕ, ◌+◌, ◌≤◌, ◌⊎◌, inl
 use Rattle.std.proofs.lemmas.List.{append-nil, length-append, length-take, take-take, take-append-drop}
 use Rattle.std.proofs.Math.Seq.{take-append_seam}
 use Rattle.sx_tree.specs.declared.json.Scalar.TheVariants.{Str, Number, Bool, Null}
-use Rattle.sx_tree.specs.Number.{IsNumber, IsDigit, AreDigits, AreSomeDigits, IsMinus, IsInt, IsFrac, IsSign, IsExp, BeginsNumber, IsLongestFront}
-use Rattle.sx_tree.specs.Value.{Value, scalar, Values, no_values, value_then, Fields, no_fields, field_then}
-use Rattle.sx_model.specs.Grammar.{IsBlank, BeginsNumberAt, ValueAt, MoreElementsAt, MoreMembersAt}
+use Rattle.sx_tree.specs.Number.{IsNumber, IsDigit, BeginsNumber, IsLongestFront}
+use Rattle.sx_tree.specs.Value.{Value, scalar}
+use Rattle.sx_model.specs.Grammar.{IsBlank, BeginsNumberAt, ValueAt}
 use Rattle.sx_json.specs.Frames.{Close, Awaits, ReadsScalar}
 use Rattle.sx_json.specs.Reading.{ReadsText}
 use Rattle.sx_json.specs.declared.reader.Frame.{Frame}
 use Rattle.sx_json.specs.declared.reader.Frame.TheVariants.{Array, Member}
-use Rattle.sx_json.proofs.StringShapes.{heads}
-use Rattle.sx_json.proofs.Skipping.{same_tail}
-use Rattle.sx_json.proofs.Values.{blank_small, Led-here, Led-from, First, a_string, a_number, a_true, a_false, a_null, an_array, an_object, first_of}
+use Rattle.sx_model.proofs.StringShapes.{heads, same_tail}
+use Rattle.sx_model.proofs.FirstBytes.{blank_small, Led-here, Led-from, First, a_string, a_number, a_true, a_false, a_null, an_array, an_object, first_of}
+use Rattle.sx_tree.proofs.NumberBytes.{AreNumberBytes, AreNumberBytes-at, front_is}
+use Rattle.sx_model.proofs.Ends.{IsEnd, elements_end, members_end, apart}
 use Rattle.sx_json.proofs.Turns.{Led-solid, string_read}
-
--- what may stand behind a value
-abbrev pub IsEnd : ℕ → Type 0
-IsEnd byte = (byte ≤ 32) ⊎ ((byte ≡ 44) ⊎ ((byte ≡ 93) ⊎ (byte ≡ 125)))
-
-pub elements_end : (vs : Values) (room byte : ℕ) (rest left : List ℕ) → MoreElementsAt vs room (byte ∷ rest) left → IsEnd byte
-elements_end no_values room byte rest left (inl e) = inr (inr (inl (heads byte 93 rest left e).0))
-elements_end no_values room byte rest left (inr b) = inl (blank_small byte b.0)
-elements_end (value_then y ys) room byte rest left (inl p) = inr (inl (heads byte 44 rest p.0 p.1).0)
-elements_end (value_then y ys) room byte rest left (inr b) = inl (blank_small byte b.0)
-
-pub members_end : (fs : Fields) (room byte : ℕ) (rest left : List ℕ) → MoreMembersAt fs room (byte ∷ rest) left → IsEnd byte
-members_end no_fields room byte rest left (inl e) = inr (inr (inr (heads byte 125 rest left e).0))
-members_end no_fields room byte rest left (inr b) = inl (blank_small byte b.0)
-members_end (field_then n y ys) room byte rest left (inl p) = inr (inl (heads byte 44 rest p.0 p.1).0)
-members_end (field_then n y ys) room byte rest left (inr b) = inl (blank_small byte b.0)
 
 close_first : (frames : List Frame) (room : ℕ) (x v : Value) (byte : ℕ) (rest : List ℕ) → Close frames room x v (byte ∷ rest) → IsEnd byte
 close_first [] room x v byte rest h = inl (blank_small byte h.1.0)
 close_first (Array items ∷ frames) room x v byte rest h = elements_end h.0 room byte rest h.1 h.2
 close_first (Member members name ∷ frames) room x v byte rest h = members_end h.0 room byte rest h.1 h.2
-
-abbrev pub IsNumberByte : ℕ → Type 0
-IsNumberByte byte = IsDigit byte ⊎ ((byte ≡ 43) ⊎ ((byte ≡ 45) ⊎ ((byte ≡ 46) ⊎ ((byte ≡ 69) ⊎ (byte ≡ 101)))))
-
-abbrev pub AreNumberBytes : List ℕ → Type 0
-AreNumberBytes [] = Unit {0}
-AreNumberBytes (byte ∷ bytes) = IsNumberByte byte × AreNumberBytes bytes
-
-pub apart : (byte : ℕ) → IsNumberByte byte → IsEnd byte → ⊥
-apart byte (inl n) (inl e) = omega (arith, n.0, n.1, e)
-apart byte (inl n) (inr (inl e)) = omega (arith, n.0, n.1, e)
-apart byte (inl n) (inr (inr (inl e))) = omega (arith, n.0, n.1, e)
-apart byte (inl n) (inr (inr (inr e))) = omega (arith, n.0, n.1, e)
-apart byte (inr (inl n)) (inl e) = omega (arith, n, e)
-apart byte (inr (inl n)) (inr (inl e)) = omega (arith, n, e)
-apart byte (inr (inl n)) (inr (inr (inl e))) = omega (arith, n, e)
-apart byte (inr (inl n)) (inr (inr (inr e))) = omega (arith, n, e)
-apart byte (inr (inr (inl n))) (inl e) = omega (arith, n, e)
-apart byte (inr (inr (inl n))) (inr (inl e)) = omega (arith, n, e)
-apart byte (inr (inr (inl n))) (inr (inr (inl e))) = omega (arith, n, e)
-apart byte (inr (inr (inl n))) (inr (inr (inr e))) = omega (arith, n, e)
-apart byte (inr (inr (inr (inl n)))) (inl e) = omega (arith, n, e)
-apart byte (inr (inr (inr (inl n)))) (inr (inl e)) = omega (arith, n, e)
-apart byte (inr (inr (inr (inl n)))) (inr (inr (inl e))) = omega (arith, n, e)
-apart byte (inr (inr (inr (inl n)))) (inr (inr (inr e))) = omega (arith, n, e)
-apart byte (inr (inr (inr (inr (inl n))))) (inl e) = omega (arith, n, e)
-apart byte (inr (inr (inr (inr (inl n))))) (inr (inl e)) = omega (arith, n, e)
-apart byte (inr (inr (inr (inr (inl n))))) (inr (inr (inl e))) = omega (arith, n, e)
-apart byte (inr (inr (inr (inr (inl n))))) (inr (inr (inr e))) = omega (arith, n, e)
-apart byte (inr (inr (inr (inr (inr n))))) (inl e) = omega (arith, n, e)
-apart byte (inr (inr (inr (inr (inr n))))) (inr (inl e)) = omega (arith, n, e)
-apart byte (inr (inr (inr (inr (inr n))))) (inr (inr (inl e))) = omega (arith, n, e)
-apart byte (inr (inr (inr (inr (inr n))))) (inr (inr (inr e))) = omega (arith, n, e)
-
-AreNumberBytes-append : (xs ys : List ℕ) → AreNumberBytes xs → AreNumberBytes ys → AreNumberBytes (xs ++ ys)
-AreNumberBytes-append [] ys a b = b
-AreNumberBytes-append (x ∷ xs) ys a b = (a.0, AreNumberBytes-append xs ys a.1 b)
-
-AreNumberBytes-left : (xs ys : List ℕ) → AreNumberBytes (xs ++ ys) → AreNumberBytes xs
-AreNumberBytes-left [] ys a = tt
-AreNumberBytes-left (x ∷ xs) ys a = (a.0, AreNumberBytes-left xs ys a.1)
-
-pub AreNumberBytes-at : (xs ys : List ℕ) (byte : ℕ) → AreNumberBytes (xs ++ byte ∷ ys) → IsNumberByte byte
-AreNumberBytes-at [] ys byte a = a.0
-AreNumberBytes-at (x ∷ xs) ys byte a = AreNumberBytes-at xs ys byte a.1
-
-digits_are : (digits : List ℕ) → AreDigits digits → AreNumberBytes digits
-digits_are [] h = tt
-digits_are (d ∷ ds) h = (inl h.0, digits_are ds h.1)
-
-some_digits_are : (digits : List ℕ) → AreSomeDigits digits → AreNumberBytes digits
-some_digits_are [] h = tt
-some_digits_are (d ∷ ds) h = (inl h.0, digits_are ds h.1)
-
-minus_is : (minus : List ℕ) → IsMinus minus → AreNumberBytes minus
-minus_is minus (inl e) = rw e tt
-minus_is minus (inr e) = rw e (inr (inr (inl refl)), tt)
-
-sign_is : (sign : List ℕ) → IsSign sign → AreNumberBytes sign
-sign_is sign (inl e) = rw e tt
-sign_is sign (inr (inl e)) = rw e (inr (inl refl), tt)
-sign_is sign (inr (inr e)) = rw e (inr (inr (inl refl)), tt)
-
-int_is : (int : List ℕ) → IsInt int → AreNumberBytes int
-int_is [] h = absurd h
-int_is (b ∷ bs) (inl z) = rw z.1 (inl (omega (arith, z.0), omega (arith, z.0)), tt)
-int_is (b ∷ bs) (inr o) = (inl (omega (arith, o.0), o.1), digits_are bs o.2)
-
-frac_is : (frac : List ℕ) → IsFrac frac → AreNumberBytes frac
-frac_is [] h = tt
-frac_is (b ∷ bs) h = (inr (inr (inr (inl h.0))), some_digits_are bs h.1)
-
-exp_is : (exp : List ℕ) → IsExp exp → AreNumberBytes exp
-exp_is [] h = tt
-exp_is (b ∷ bs) h = (mark h.0, rw h.5 (AreNumberBytes-append h.1 h.2 (sign_is h.1 h.3) (some_digits_are h.2 h.4)))
-  where
-    mark : (b ≡ 101) ⊎ (b ≡ 69) → IsNumberByte b
-    mark (inl e) = inr (inr (inr (inr (inr e))))
-    mark (inr e) = inr (inr (inr (inr (inl e))))
-
-number_is : (literal : List ℕ) → IsNumber literal → AreNumberBytes literal
-number_is literal n =
-    rw n.whole (AreNumberBytes-append n.minus (n.int ++ (n.frac ++ n.exp)) (minus_is n.minus n.is_minus)
-    (AreNumberBytes-append n.int (n.frac ++ n.exp) (int_is n.int n.is_int) (AreNumberBytes-append n.frac n.exp (frac_is n.frac n.is_frac) (exp_is n.exp n.is_exp))))
-
-pub front_is : (front : List ℕ) → BeginsNumber front → AreNumberBytes front
-front_is front b = AreNumberBytes-left front b.0 (number_is (front ++ b.0) b.1)
 
 shared : (xs ys a b : List ℕ) → xs ++ a ≡ ys ++ b → length xs ≤ length ys → (m : List ℕ) × (ys ≡ xs ++ m) × (a ≡ m ++ b)
 shared [] ys a b e le = (ys, refl, e)

@@ -2,7 +2,7 @@
 use Rattle.std.proofs.Common.{◌≡◌, ℕ, ◌+◌, ◌<◌, List, [], ◌∷◌, ◌++◌, refl, ap, sym, ◌∙◌, length, take, drop, get_or, append_assoc}
 use Rattle.std.proofs.lemmas.List.{take-append-drop, take_more}
 use Rattle.sx_model.specs.Grammar.{AreBlanks, BeginsOther, IsBlank, Skips}
-use Rattle.sx_json.proofs.StringShapes.{heads}
+use Rattle.sx_model.proofs.StringShapes.{same_tail}
 
 AreBlanks-push : (blanks : List ℕ) (b : ℕ) → AreBlanks blanks → IsBlank b → AreBlanks (blanks ++ b ∷ [])
 AreBlanks-push [] b all one = (one, tt)
@@ -13,10 +13,6 @@ skips_none bytes = ([], tt, refl)
 
 pub skips_more : (bytes rest after : List ℕ) (b : ℕ) → Skips bytes rest → rest ≡ b ∷ after → IsBlank b → Skips bytes after
 skips_more bytes rest after b s is one = (s.0 ++ b ∷ [], AreBlanks-push s.0 b s.1 one, s.2 ∙ ap (λ l. s.0 ++ l) is ∙ sym (append_assoc s.0 (b ∷ []) after))
-
-pub same_tail : (word a b : List ℕ) → word ++ a ≡ word ++ b → a ≡ b
-same_tail [] a b e = e
-same_tail (x ∷ xs) a b e = same_tail xs a b (heads x x (xs ++ a) (xs ++ b) e).1
 
 pub word_differs : (bytes word rest left : List ℕ) (i : ℕ) → i < length word → bytes ≡ take i word ++ rest → BeginsOther (get_or word i 0) rest → bytes ≡ word ++ left → ⊥
 word_differs bytes word rest left i below is other whole =

@@ -8,7 +8,7 @@ use Rattle.std.specs.Char.{IsScalar}
 use Rattle.std.specs.Str.{IsValidUpTo}
 use Rattle.sx_model.specs.Strings.{IsHexDigit, UnitAt, pair_char}
 use Rattle.sx_json.proofs.Results.{unless_map}
-use Rattle.sx_json.proofs.StringShapes.{short_small}
+use Rattle.sx_model.proofs.StringShapes.{short_small}
 use Rattle.sx_json.specs.Reading.{UnlessMemory}
 use Rattle.sx_model.specs.StringFaults.{UnicodeAt, EscapeAt, PieceAt, StringFault, QuotedFault, QuoteFault, FrontFault, cut}
 use Rattle.sx_tree.specs.declared.json_fault.JsonFault.{JsonFault}

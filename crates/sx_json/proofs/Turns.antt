@@ -12,8 +12,8 @@ use Rattle.sx_model.specs.Grammar.{IsBlank, Led, ValueAt, ElementsAt, MoreElemen
 use Rattle.sx_json.specs.Frames.{Close, Awaits, AwaitsElements, AwaitsMembers, append_values}
 use Rattle.sx_json.specs.declared.reader.Frame.{Frame}
 use Rattle.sx_json.specs.declared.reader.Frame.TheVariants.{Array}
-use Rattle.sx_json.proofs.StringShapes.{heads, nothing_there}
-use Rattle.sx_json.proofs.Values.{blank_small, Led-here, Led-from, First, a_string, a_number, a_true, a_false, a_null, an_array, an_object, first_of, no_value_of_nothing, no_value_from}
+use Rattle.sx_model.proofs.StringShapes.{heads, nothing_there}
+use Rattle.sx_model.proofs.FirstBytes.{blank_small, Led-here, Led-from, First, a_string, a_number, a_true, a_false, a_null, an_array, an_object, first_of, no_value_of_nothing, no_value_from}
 
 digit_apart : (byte : ℕ) → (byte ≡ 45) ⊎ IsDigit byte → (byte ≤ 57) × (45 ≤ byte)
 digit_apart byte (inl e) = (omega (arith, e), omega (arith, e))

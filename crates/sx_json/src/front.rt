@@ -68,7 +68,8 @@ fn any_front(alloc: Global, text: &[u8]) -> Result<(Text, usize), JsonFault>
 ///
 /// # Errors
 ///
-/// The fault that is known at the least byte, as `JsonFault` tells them, or `OutOfMemory`.
+/// What is first wrong in the string, read from left to right and piece by piece, as `JsonFault` tells it; or
+/// `OutOfMemory`.
 pub fn read_string(alloc: Global, text: &[u8]) -> Result<(Text, usize), JsonFault>
     // What is read stands at the front.
     ensures spelled { IfOk result (λ p. IsStringFront text.now p.0 p.1) }
@@ -76,7 +77,7 @@ pub fn read_string(alloc: Global, text: &[u8]) -> Result<(Text, usize), JsonFaul
     ensures only { (content : List ℕ) (used : ℕ) → IsStringFront text.now content used → IfOk result (λ p. (p.0 ≡ content) × (p.1 ≡ used)) }
     // A fault comes only where no string stands at the front, unless memory runs out.
     ensures refused { IfErr result (Refuses (NoStringFront text.now)) }
-    // It is the fault that is known at the least byte.
+    // It is a fault of the string, piece by piece.
     ensures fault { IfErr result (UnlessMemory (FrontFault text.now)) }
     // A text with a fault is refused with it, and with no other.
     ensures no_other { (f : JsonFault) → FrontFault text.now f → MatchResult result (λ _. ⊥) (UnlessMemory (λ e. e ≡ f)) }

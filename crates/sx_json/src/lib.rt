@@ -12,6 +12,3 @@ pub use fault::JsonFault;
 pub use front::read_string;
 pub use reader::read;
 pub use writer::write;
-
-#[cfg(test)]
-mod tests;

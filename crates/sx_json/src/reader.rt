@@ -366,7 +366,8 @@ fn fault_before(alloc: Global, text: &[u8], valid: usize) -> JsonFault
 ///
 /// # Errors
 ///
-/// The fault that is known at the least byte, as `JsonFault` tells them, or `OutOfMemory`.
+/// What is first wrong in the text, read from left to right and construct by construct, as `JsonFault` tells it; or
+/// `OutOfMemory`.
 pub fn read(alloc: Global, text: &[u8]) -> Result<Json, JsonFault>
     // What is read is spelled so.
     ensures spelled { IfOk result (λ json. Spells text.now (value_of json)) }
@@ -374,7 +375,7 @@ pub fn read(alloc: Global, text: &[u8]) -> Result<Json, JsonFault>
     ensures only { (v : Value) → Spells text.now v → IfOk result (λ json. value_of json ≡ v) }
     // Other texts are refused, and no others, unless memory runs out.
     ensures refused { IfErr result (Refuses ((v : Value) → Spells text.now v → ⊥)) }
-    // A refusal is the fault that is known at the least byte.
+    // A refusal is a fault of the text, construct by construct over the grammar.
     ensures fault { IfErr result (UnlessMemory (Faults text.now)) }
     // A text with a fault is refused with it, and with no other.
     ensures no_other { (f : JsonFault) → Faults text.now f → MatchResult result (λ _. ⊥) (UnlessMemory (λ e. e ≡ f)) }

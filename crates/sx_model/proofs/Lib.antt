@@ -1,16 +1,28 @@
-pub mod Examples
+pub mod Accepted
+pub mod Apart
+pub mod Changes
 mod EditRows
-mod RefusalRows
-mod OrderRows
-mod ValidRows
+pub mod Ends
+pub mod Examples
+pub mod FirstBytes
 mod HashRows
 pub mod Holes
 pub mod NumberDocuments
-pub mod Spots
-pub mod Apart
-pub mod Plugging
 pub mod NumberedTrees
-pub mod Accepted
-pub mod Changes
+pub mod OneString
+pub mod OneValue
+mod OrderRows
+pub mod Plugging
+mod RefusalRows
+pub mod Shortest
 pub mod Sound
+pub mod Spelled
+pub mod Spots
+pub mod StringShapes
+pub mod TextRows
+pub mod Tokens
 pub mod TreeTexts
+pub mod Units
+mod ValidRows
+pub mod Within
+pub mod WrittenStrings

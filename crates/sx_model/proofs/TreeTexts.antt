@@ -16,6 +16,14 @@ texts-scalar (scalars.Bool true) n = refl
 texts-scalar (scalars.Bool false) n = refl
 texts-scalar scalars.Null n = refl
 
+-- a name, a colon and a value before others
+member_text : (name : List ℕ) (v : Value) (fs : Fields) (n : ℕ) → texts false (numbered v (suc n) no_trees) ≡ text v ++ [] → texts true (numbered_fields fs (suc n + nodes v)) ≡ more_members_text fs
+    → texts false (numbered_fields (field_then name v fs) n) ≡ members_text (field_then name v fs)
+member_text name v fs n value more =
+    append_assoc (string_text name) (58 ∷ []) (texts false (numbered v (suc n) no_trees) ++ texts true (numbered_fields fs (suc n + nodes v)))
+    ∙ ap (λ (t : List ℕ). string_text name ++ 58 ∷ (t ++ texts true (numbered_fields fs (suc n + nodes v)))) (value ∙ append-nil (text v))
+    ∙ ap (λ (t : List ℕ). string_text name ++ 58 ∷ (text v ++ t)) more
+
 mutual
   pub texts-numbered : (v : Value) (n : ℕ) (begun : Bool) (rest : Forest) → texts begun (numbered v n rest) ≡ comma begun ++ (text v ++ texts true rest)
   texts-numbered (scalar s) n begun rest =
@@ -38,11 +46,11 @@ mutual
 
   texts-members : (fs : Fields) (n : ℕ) → texts false (numbered_fields fs n) ≡ members_text fs
   texts-members no_fields n = refl
-  texts-members (field_then name v fs) n = simp (texts-numbered v (suc n) false no_trees, texts-more_members fs (suc n + nodes v), append-nil, append_assoc)
+  texts-members (field_then name v fs) n = member_text name v fs n (texts-numbered v (suc n) false no_trees) (texts-more_members fs (suc n + nodes v))
 
   texts-more_members : (fs : Fields) (n : ℕ) → texts true (numbered_fields fs n) ≡ more_members_text fs
   texts-more_members no_fields n = refl
-  texts-more_members (field_then name v fs) n = simp (texts-numbered v (suc n) false no_trees, texts-more_members fs (suc n + nodes v), append-nil, append_assoc)
+  texts-more_members (field_then name v fs) n = ap (λ (t : List ℕ). 44 ∷ t) (member_text name v fs n (texts-numbered v (suc n) false no_trees) (texts-more_members fs (suc n + nodes v)))
 
 -- The text of a value's tree is the value's.
 pub text-numbered : (v : Value) (n : ℕ) → texts false (numbered v n no_trees) ≡ text v

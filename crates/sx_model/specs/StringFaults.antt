@@ -1,6 +1,6 @@
--- What is first wrong in a string (RFC 8259 section 7), read from left to right, and where. The end is the
--- length of the whole text, of which the bytes are a rest: their place is the end less their length. Of the
--- bytes 34 is a quote, 92 a backslash and 117 the letter u.
+-- What is first wrong in a string (RFC 8259 section 7), read from left to right, piece by piece, and where. The
+-- end is the length of the whole text, of which the bytes are a rest: their place is the end less their length.
+-- Of the bytes 34 is a quote, 92 a backslash and 117 the letter u.
 use Rattle.std.specs.Prelude.{ℕ, zero, suc, ◌≡◌, ◌≢◌, ◌≤◌, ◌<◌, ◌+◌, ◌-◌, ◌⊎◌, List, [], ◌∷◌, length, take, IsUtf8, encode_utf8}
 use Rattle.std.specs.Char.{IsScalar}
 use Rattle.std.specs.Str.{IsValidUpTo}

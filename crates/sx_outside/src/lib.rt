@@ -33,6 +33,3 @@ pub use source::Source;
 pub use std_sink::StdSink;
 pub use std_source::StdSource;
 pub use still_clock::StillClock;
-
-#[cfg(test)]
-mod tests;

@@ -7,6 +7,3 @@ mod record;
 mod text;
 
 pub use record::Record;
-
-#[cfg(test)]
-mod tests;

@@ -1,5 +1,6 @@
 pub mod NumberStates
 pub mod NumberFronts
+pub mod NumberBytes
 pub mod NumberTexts
 pub mod NameLists
 pub mod MemberLists

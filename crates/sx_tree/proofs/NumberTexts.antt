@@ -1,56 +1,23 @@
 -- A number is in UTF-8, and whether bytes are one can be told.
-use Rattle.std.proofs.Common.{◌≡◌, ℕ, ◌≤◌, ◌<◌, inl, inr, ◌⊎◌, List, [], ◌∷◌, ◌++◌, sym, subst, arith, IsUtf8}
+use Rattle.std.proofs.Common.{◌≡◌, ℕ, ◌≤◌, ◌<◌, inl, inr, ◌⊎◌, List, [], ◌∷◌, subst, arith, IsUtf8}
 use Rattle.std.proofs.lemmas.Bool.{cases_lt, cases_eq}
 use Rattle.std.proofs.lemmas.Str.{IsUtf8-append, IsUtf8-nil, IsUtf8-encode, encode_ascii}
 use lib.Utf8.{low_scalar}
 use mathlib.Core.Logic.{∥∥₁_elim}
-use Rattle.sx_tree.specs.Number.{IsDigit, AreDigits, AreSomeDigits, IsMinus, IsInt, IsFrac, IsSign, IsExp, IsNumber}
+use Rattle.sx_tree.specs.Number.{IsDigit, AreDigits, AreSomeDigits, IsNumber}
 use Rattle.sx_tree.specs.NumberState.{DigitsThen, FollowsMark, FollowsFraction, FollowsPoint, FollowsInt, FollowsMinus, FollowsStart}
+use Rattle.sx_tree.proofs.NumberBytes.{AreNumberBytes, number_small, number_is}
 use Rattle.sx_tree.proofs.NumberStates.{FollowsStart-number, number_of}
 
 pub ascii_then : (byte : ℕ) (bytes : List ℕ) → byte < 128 → IsUtf8 bytes → IsUtf8 (byte ∷ bytes)
 ascii_then byte bytes small u = IsUtf8-append (byte ∷ []) bytes (subst IsUtf8 (encode_ascii byte small) (IsUtf8-encode byte (low_scalar byte (omega arith)))) u
 
-digits_utf8 : (digits : List ℕ) → AreDigits digits → IsUtf8 digits
-digits_utf8 [] h = IsUtf8-nil
-digits_utf8 (byte ∷ bytes) h = ascii_then byte bytes (omega (arith, h.0.1)) (digits_utf8 bytes h.1)
-
-some_digits_utf8 : (digits : List ℕ) → AreSomeDigits digits → IsUtf8 digits
-some_digits_utf8 [] h = absurd h
-some_digits_utf8 (byte ∷ bytes) h = ascii_then byte bytes (omega (arith, h.0.1)) (digits_utf8 bytes h.1)
-
-byte_utf8 : (byte : ℕ) (bytes : List ℕ) → byte ≤ 127 → bytes ≡ byte ∷ [] → IsUtf8 bytes
-byte_utf8 byte bytes small e = subst IsUtf8 (sym e) (ascii_then byte [] (omega arith) IsUtf8-nil)
-
-minus_utf8 : (minus : List ℕ) → IsMinus minus → IsUtf8 minus
-minus_utf8 minus (inl e) = subst IsUtf8 (sym e) IsUtf8-nil
-minus_utf8 minus (inr e) = byte_utf8 45 minus (omega arith) e
-
-sign_utf8 : (sign : List ℕ) → IsSign sign → IsUtf8 sign
-sign_utf8 sign (inl e) = subst IsUtf8 (sym e) IsUtf8-nil
-sign_utf8 sign (inr (inl e)) = byte_utf8 43 sign (omega arith) e
-sign_utf8 sign (inr (inr e)) = byte_utf8 45 sign (omega arith) e
-
-int_utf8 : (int : List ℕ) → IsInt int → IsUtf8 int
-int_utf8 [] h = absurd h
-int_utf8 (byte ∷ bytes) (inl zero) = ascii_then byte bytes (omega (arith, zero.0)) (subst IsUtf8 (sym zero.1) IsUtf8-nil)
-int_utf8 (byte ∷ bytes) (inr other) = ascii_then byte bytes (omega (arith, other.1)) (digits_utf8 bytes other.2)
-
-frac_utf8 : (frac : List ℕ) → IsFrac frac → IsUtf8 frac
-frac_utf8 [] h = IsUtf8-nil
-frac_utf8 (byte ∷ bytes) h = ascii_then byte bytes (omega (arith, h.0)) (some_digits_utf8 bytes h.1)
-
-exp_utf8 : (exp : List ℕ) → IsExp exp → IsUtf8 exp
-exp_utf8 [] h = IsUtf8-nil
-exp_utf8 (byte ∷ bytes) h =
-    ascii_then byte bytes (elim h.0 [ inl e ↦ omega (arith, e) | inr e ↦ omega (arith, e) ])
-    (subst IsUtf8 (sym h.5) (IsUtf8-append h.1 h.2 (sign_utf8 h.1 h.3) (some_digits_utf8 h.2 h.4)))
+bytes_utf8 : (bytes : List ℕ) → AreNumberBytes bytes → IsUtf8 bytes
+bytes_utf8 [] all = IsUtf8-nil
+bytes_utf8 (byte ∷ bytes) all = ascii_then byte bytes (number_small byte all.0) (bytes_utf8 bytes all.1)
 
 pub IsUtf8-number : (literal : List ℕ) → IsNumber literal → IsUtf8 literal
-IsUtf8-number literal n =
-    subst IsUtf8 (sym n.whole)
-    (IsUtf8-append n.minus (n.int ++ (n.frac ++ n.exp)) (minus_utf8 n.minus n.is_minus)
-    (IsUtf8-append n.int (n.frac ++ n.exp) (int_utf8 n.int n.is_int) (IsUtf8-append n.frac n.exp (frac_utf8 n.frac n.is_frac) (exp_utf8 n.exp n.is_exp))))
+IsUtf8-number literal n = bytes_utf8 literal (number_is literal n)
 
 data Told (A : Type 0) : Type 0 where
   holds : A → Told A

@@ -84,33 +84,3 @@ fn total_nodes(values: &[Json]) -> u64
     }
     total
 }
-
-#[cfg(test)]
-mod tests {
-    use super::*;
-    use crate::member_list::MemberFault;
-    use std::alloc::Global;
-    use std::test::Fail;
-
-    fn name(alloc: Global, bytes: &[u8]) -> Result<Text, Fail> {
-        Ok(Text::new(alloc, bytes)?)
-    }
-
-    // {"a":[1,[]],"b":null}
-    #[test]
-    fn counts(rt: HostRuntime) -> Result<(), Fail> {
-        let alloc = rt.alloc();
-        let mut items = Items::new(alloc);
-        items.push(Json::Scalar(Scalar::Number(Literal::new(alloc, b"1")?)))?;
-        items.push(Json::Array(Items::new(alloc)))?;
-        let mut members = Members::new(alloc);
-        members.push(alloc, name(alloc, b"a")?, Json::Array(items))?;
-        members.push(alloc, name(alloc, b"b")?, Json::Scalar(Scalar::Null))?;
-        let taken = members.push(alloc, name(alloc, b"b")?, Json::Scalar(Scalar::Null));
-        assert_eq!(rt; taken, Err(MemberFault::Taken { index: 1 }));
-        let value = Json::Object(members);
-        assert_eq!(rt; value.depth(), 3);
-        assert_eq!(rt; value.nodes(), 7);
-        Ok(())
-    }
-}

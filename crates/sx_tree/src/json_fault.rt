@@ -23,7 +23,7 @@ pub enum JsonFault {
     /// The number that begins at this place has more than 64 bytes.
     #[error("the number at byte {at} is too long")]
     NumberTooLong { at: u64 },
-    /// The string whose opening quote stands at this place has more than 1,048,576 bytes.
+    /// The string whose opening quote stands at this place stands for more than 1,048,576 bytes.
     #[error("the string at byte {at} is too long")]
     StringTooLong { at: u64 },
     /// The text ends where no value ended.

@@ -102,34 +102,3 @@ impl Literal {
         Ok(Literal { bytes })
     }
 }
-
-#[cfg(test)]
-mod tests {
-    use super::*;
-    use std::test::Fail;
-
-    #[test]
-    fn literals(rt: HostRuntime) -> Result<(), Fail> {
-        let digits = [b'1'; 65];
-        let accepted: [&[u8]; 4] = [b"0", b"-0", b"1.50e+3", &digits[..64]];
-        for text in accepted {
-            let literal = Literal::new(rt.alloc(), text)?.copy(rt.alloc())?;
-            assert_eq!(rt; literal.as_bytes(), text);
-        }
-        let refused: [(&[u8], LiteralFault); 8] = [
-            (b"01", LiteralFault::Bad { at: 1 }),
-            (b"+1", LiteralFault::Bad { at: 0 }),
-            (b"1.", LiteralFault::Bad { at: 2 }),
-            (b".5", LiteralFault::Bad { at: 0 }),
-            (b"1e", LiteralFault::Bad { at: 2 }),
-            (b"-", LiteralFault::Bad { at: 1 }),
-            (b"", LiteralFault::Bad { at: 0 }),
-            (&digits, LiteralFault::TooLong { bytes: 65 }),
-        ];
-        for (text, fault) in refused {
-            let found = Literal::new(rt.alloc(), text).map(|_| ());
-            assert_eq!(rt; found, Err(fault));
-        }
-        Ok(())
-    }
-}

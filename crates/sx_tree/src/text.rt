@@ -98,31 +98,3 @@ impl Text {
         Ok(Text { text })
     }
 }
-
-#[cfg(test)]
-mod tests {
-    use super::*;
-    use std::test::Fail;
-
-    fn letters(alloc: Global, count: usize) -> Result<Vec<u8>, AllocError> {
-        Vec::from_elem(alloc, b'a', count)
-    }
-
-    #[test]
-    fn texts(rt: HostRuntime) -> Result<(), Fail> {
-        let longest = letters(rt.alloc(), TEXT_BYTES)?;
-        let text = Text::new(rt.alloc(), &longest)?.copy(rt.alloc())?;
-        assert_eq!(rt; text.as_str().len(), TEXT_BYTES);
-        let too_long = letters(rt.alloc(), TEXT_BYTES + 1)?;
-        let refused: [(&[u8], TextFault); 4] = [
-            (&too_long, TextFault::TooLong { bytes: 1_048_577 }),
-            (b"a\xc3", TextFault::NotUtf8 { at: 1 }),
-            (b"\xc3\xa4\xff!", TextFault::NotUtf8 { at: 2 }),
-            (b"\xed\xa0\x80", TextFault::NotUtf8 { at: 0 }),
-        ];
-        for (bytes, fault) in refused {
-            assert_eq!(rt; Text::new(rt.alloc(), bytes).map(|_| ()), Err(fault));
-        }
-        Ok(())
-    }
-}

@@ -11,6 +11,3 @@ pub use fault::{Fault, QueryFault};
 pub use mem_records::MemRecords;
 pub use records::{Records, RecordsMut};
 pub use refs::Refs;
-
-#[cfg(test)]
-mod tests;

@@ -5,7 +5,7 @@ use Rattle.sx_model.specs.StringFaults.{StringFault, PieceFault, in_piece, too_l
 use Rattle.sx_tree.specs.Text.{IsText}
 use Rattle.sx_json.proofs.Results.{memory_alone, unless_map}
 use Rattle.sx_json.proofs.OneStringFault.{text_read}
-use Rattle.sx_json.proofs.StringShapes.{piece_then}
+use Rattle.sx_model.proofs.StringShapes.{piece_then}
 use Rattle.sx_json.proofs.StringTexts.{split_ascii, piece_keeps, from_quote}
 use Rattle.sx_json.proofs.strings.string_at.Goals as goal
 

@@ -1,6 +1,6 @@
 use Rattle.std.proofs.Common.{inl, inr}
 use Rattle.std.proofs.lemmas.Result.{err_from_is_err_and}
-use Rattle.sx_json.proofs.Units.{UnitAt-digits}
+use Rattle.sx_model.proofs.Units.{UnitAt-digits}
 use Rattle.sx_json.proofs.strings.unit_at.Goals as goal
 
 pub returns-clause-ok : goal.returns-clause-ok

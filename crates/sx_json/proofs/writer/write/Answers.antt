@@ -1,4 +1,5 @@
-use Rattle.sx_json.proofs.ReadBack.{on_ok, text_spelled}
+use Rattle.sx_model.proofs.Spelled.{text_spelled}
+use Rattle.sx_json.proofs.Growing.{on_ok}
 use Rattle.sx_json.proofs.writer.write.Goals as goal
 
 pub returns-clause-read_back : goal.returns-clause-read_back

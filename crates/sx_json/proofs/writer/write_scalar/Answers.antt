@@ -1,4 +1,4 @@
-use Rattle.sx_json.proofs.ReadBack.{on_ok}
+use Rattle.sx_json.proofs.Growing.{on_ok}
 use Rattle.sx_tree.proofs.NumberTexts.{number_known}
 use Rattle.sx_json.proofs.writer.write_scalar.Goals as goal
 

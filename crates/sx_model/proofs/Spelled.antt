@@ -1,18 +1,17 @@
 -- A value's text spells the value.
-use Rattle.std.proofs.Common.{◌≡◌, ℕ, zero, suc, ◌+◌, ◌≤◌, ◌<◌, length, get_or, take, inl, List, [], ◌∷◌, ◌++◌, true, false, refl, ap, sym, ◌∙◌, subst, arith, append_assoc, append-nil, IsUtf8, flat_map, Result, Ok, Err, OnOk}
-use Rattle.std.proofs.lemmas.List.{take_more}
+use Rattle.std.proofs.Common.{◌≡◌, ℕ, zero, suc, ◌≤◌, inl, List, [], ◌∷◌, ◌++◌, true, false, refl, ap, sym, subst, arith, append_assoc, append-nil, IsUtf8, flat_map}
 use Rattle.std.proofs.lemmas.Str.{IsUtf8-append, IsUtf8-nil}
-use Rattle.sx_tree.specs.declared.json.Json.{Json}
 use Rattle.sx_tree.specs.declared.json.Scalar.{Scalar}
 use Rattle.sx_tree.specs.declared.json.Scalar.TheVariants.{Str, Number, Bool, Null}
-use Rattle.sx_tree.specs.Value.{Value, scalar, array, object, Values, no_values, value_then, Fields, no_fields, field_then, value_of, values_of, fields_of, depth, depth_of_values, depth_of_fields}
+use Rattle.sx_tree.specs.Value.{Value, scalar, array, object, Values, no_values, value_then, Fields, no_fields, field_then, depth, depth_of_values, depth_of_fields}
 use Rattle.sx_model.specs.Canonical.{escaped, string_text, scalar_text, text, elements_text, more_elements_text, members_text, more_members_text}
 use Rattle.sx_model.specs.Grammar.{Led, NameThen, ScalarAt, ValueAt, ElementsAt, MoreElementsAt, MembersAt, MoreMembersAt, Spells}
 use Rattle.sx_model.specs.Limits.{ScalarKeepsLimits, KeepsLimits, ElementsKeepLimits, MembersKeepLimits}
 use Rattle.sx_model.specs.Strings.{TextAt}
 use Rattle.sx_tree.specs.Text.{IsText}
-use Rattle.sx_json.proofs.Values.{Led-from}
-use Rattle.sx_json.proofs.WrittenStrings.{content_spelled, IsUtf8-string_text}
+use Rattle.sx_model.proofs.FirstBytes.{Led-from}
+use Rattle.sx_model.proofs.Tokens.{Element, Member}
+use Rattle.sx_model.proofs.WrittenStrings.{content_spelled, IsUtf8-string_text}
 use Rattle.sx_tree.proofs.NumberTexts.{ascii_then, IsUtf8-number}
 
 string_spelled : (content after : List ℕ) → IsText content → TextAt (flat_map escaped content ++ 34 ∷ after) content after
@@ -28,13 +27,6 @@ scalar_spelled (Number literal) left h = (h, refl)
 scalar_spelled (Bool true) left h = refl
 scalar_spelled (Bool false) left h = refl
 scalar_spelled Null left h = refl
-
--- a value and what follows it in an array, and in an object
-abbrev Element : Value → Values → ℕ → List ℕ → List ℕ → Type 0
-Element v vs room left bytes = (after : List ℕ) × ValueAt v room bytes after × MoreElementsAt vs room after left
-
-abbrev Member : Value → Fields → ℕ → List ℕ → List ℕ → Type 0
-Member v fs room left bytes = (after : List ℕ) × ValueAt v room bytes after × MoreMembersAt fs room after left
 
 -- a name, its colon, and what P says of the rest
 name_spelled : (name rest : List ℕ) (P : List ℕ → Type 0) → IsText name → P rest → NameThen name P (string_text name ++ (58 ∷ rest))
@@ -131,24 +123,3 @@ mutual
 pub text_spelled : (v : Value) → KeepsLimits v → depth v ≤ 256 → Spells (text v) v
 text_spelled v h d =
     (text_utf8 v h, [], subst (Led (λ b. ValueAt v 256 b [])) (append-nil (text v)) (Led-from (λ b. ValueAt v 256 b []) (text v ++ []) (value_spelled v 256 [] h d)), tt)
-
-elements_keep-push : (xs : List Json) (x : Json) → ElementsKeepLimits (values_of xs) → KeepsLimits (value_of x) → ElementsKeepLimits (values_of (xs ++ x ∷ []))
-elements_keep-push [] x h k = (k, tt)
-elements_keep-push (y ∷ ys) x h k = (h.0, elements_keep-push ys x h.1 k)
-
-pub elements_keep-more : (xs : List Json) (i : ℕ) (x : Json) → i < length xs → x ≡ get_or xs i x → ElementsKeepLimits (values_of (take i xs)) → KeepsLimits (value_of x) → ElementsKeepLimits (values_of (take (i + 1) xs))
-elements_keep-more xs i x below is h k =
-    subst (λ l. ElementsKeepLimits (values_of l)) (sym (take_more xs i x below ∙ ap (λ y. take i xs ++ y ∷ []) (sym is))) (elements_keep-push (take i xs) x h k)
-
-members_keep-push : (ms : List (List ℕ × Json)) (m : List ℕ × Json) → MembersKeepLimits (fields_of ms) → IsText m.0 → KeepsLimits (value_of m.1) → MembersKeepLimits (fields_of (ms ++ m ∷ []))
-members_keep-push [] m h t k = (t, k, tt)
-members_keep-push (n ∷ ns) m h t k = (h.0, h.1, members_keep-push ns m h.2 t k)
-
-pub members_keep-more : (ms : List (List ℕ × Json)) (i : ℕ) (m : List ℕ × Json) → i < length ms → m ≡ get_or ms i m → MembersKeepLimits (fields_of (take i ms)) → IsText m.0 → KeepsLimits (value_of m.1)
-    → MembersKeepLimits (fields_of (take (i + 1) ms))
-members_keep-more ms i m below is h t k =
-    subst (λ l. MembersKeepLimits (fields_of l)) (sym (take_more ms i m below ∙ ap (λ y. take i ms ++ y ∷ []) (sym is))) (members_keep-push (take i ms) m h t k)
-
-pub on_ok : {T E : Type 0} (P : Type 0) (r : Result T E) → P → OnOk r P
-on_ok P (Ok x) p = p
-on_ok P (Err e) p = tt

@@ -8,7 +8,7 @@ use Rattle.sx_tree.proofs.NumberTexts.{ascii_then}
 use Rattle.sx_model.specs.Canonical.{lower_hex_digit, escaped, string_text}
 use Rattle.sx_model.specs.Strings.{IsPlain, IsShortEscape, IsHexDigit, UnitAt, StringAt, closing, plain, short, unicode}
 
-escaped_plain : (byte : ℕ) → IsPlain byte → escaped byte ≡ byte ∷ []
+pub escaped_plain : (byte : ℕ) → IsPlain byte → escaped byte ≡ byte ∷ []
 escaped_plain byte p =
     rw (
       ne_eqb byte 34 p.1,
@@ -22,12 +22,12 @@ escaped_plain byte p =
     ) refl
 
 -- how a byte is written
-data Written (byte : ℕ) : Type 0 where
+pub data Written (byte : ℕ) : Type 0 where
   by_itself : IsPlain byte → escaped byte ≡ byte ∷ [] → Written byte
   by_letter : (letter : ℕ) → IsShortEscape letter byte → escaped byte ≡ 92 ∷ letter ∷ [] → Written byte
   by_number : byte < 32 → escaped byte ≡ 92 ∷ 117 ∷ 48 ∷ 48 ∷ lower_hex_digit (byte / 16) ∷ lower_hex_digit (byte % 16) ∷ [] → Written byte
 
-written : (byte : ℕ) → Written byte
+pub written : (byte : ℕ) → Written byte
 written byte = choose (cases_eq byte 34) (cases_eq byte 92) (cases_eq byte 8) (cases_eq byte 12) (cases_eq byte 10) (cases_eq byte 13) (cases_eq byte 9) (cases_lt byte 32)
   where
     choose : (byte ≡ 34) ⊎ (byte ≡ 34 → ⊥) → (byte ≡ 92) ⊎ (byte ≡ 92 → ⊥) → (byte ≡ 8) ⊎ (byte ≡ 8 → ⊥) → (byte ≡ 12) ⊎ (byte ≡ 12 → ⊥) → (byte ≡ 10) ⊎ (byte ≡ 10 → ⊥)
@@ -83,11 +83,11 @@ content_spelled (byte ∷ bytes) after =
     subst (λ l. StringAt l (byte ∷ bytes) after) (sym (append_assoc (escaped byte) (flat_map escaped bytes) (34 ∷ after)))
     (one_byte byte (flat_map escaped bytes ++ 34 ∷ after) bytes after (written byte) (content_spelled bytes after))
 
-abbrev are_ascii : List ℕ → Bool
+abbrev pub are_ascii : List ℕ → Bool
 are_ascii [] = true
 are_ascii (byte ∷ bytes) = nat_lt byte 128 && are_ascii bytes
 
-utf8_of_ascii : (bytes : List ℕ) → are_ascii bytes ≡ true → IsUtf8 bytes
+pub utf8_of_ascii : (bytes : List ℕ) → are_ascii bytes ≡ true → IsUtf8 bytes
 utf8_of_ascii [] e = IsUtf8-nil
 utf8_of_ascii (byte ∷ bytes) e = let p = and_parts _ _ e in ascii_then byte bytes (ltb-true _ _ p.0) (utf8_of_ascii bytes p.1)
 
@@ -111,15 +111,20 @@ high_bytes (byte ∷ bytes) h =
     let high : 128 ≤ byte = h 0 (omega arith) in
     ap₂ (λ (a b : List ℕ). a ++ b) (escaped_plain byte (omega arith, λ e. omega (arith, e), λ e. omega (arith, e))) (high_bytes bytes (λ k below. h (suc k) (omega arith)))
 
+-- A character above ASCII stands as it is.
+pub high_char : (c : ℕ) → 128 ≤ c → flat_map escaped (encode c) ≡ encode c
+high_char c big = high_bytes (encode c) high
+  where
+    high : (k : ℕ) → k < length (encode c) → 128 ≤ get_or (encode c) k 0
+    high k below = elim (cases_lt (get_or (encode c) k 0) 128) [
+      | inl low ↦ absurd (omega (arith, inside_one c [] (encode c) k (sym (append-nil _)) below low))
+      | inr h ↦ h
+    ]
+
 one_char : (c : ℕ) → scalar c ≡ true → IsUtf8 (flat_map escaped (encode c))
 one_char c ok = elim (cases_lt c 128) [
   | inl small ↦ rw (encode_ascii c small, append-nil) (utf8_of_ascii _ (escape_below 128 all_ascii c small))
-  | inr big ↦
-      let high : (k : ℕ) → k < length (encode c) → 128 ≤ get_or (encode c) k 0 = λ k below. elim (cases_lt (get_or (encode c) k 0) 128) [
-        | inl low ↦ absurd (omega (arith, inside_one c [] (encode c) k (sym (append-nil _)) below low))
-        | inr h ↦ h
-      ] in
-      subst IsUtf8 (sym (high_bytes (encode c) high)) (IsUtf8-encode c ok)
+  | inr big ↦ subst IsUtf8 (sym (high_char c big)) (IsUtf8-encode c ok)
 ]
 
 all_chars : (cs : List ℕ) → scalars cs ≡ true → IsUtf8 (flat_map escaped (encodes cs))

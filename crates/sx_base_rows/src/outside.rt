@@ -1,9 +1,10 @@
-use crate::{
-    Clock, Failed, ListClock, MemSink, MemSource, Sink, Source, StdSink, StdSource, StillClock,
-};
+//! Sources, sinks and clocks.
 use std::io;
 use std::io::{ErrorKind, Read, Write};
 use std::test::Fail;
+use sx_outside::{
+    Clock, Failed, ListClock, MemSink, MemSource, Sink, Source, StdSink, StdSource, StillClock,
+};
 
 // A reader and a writer whose next calls are interrupted, that then fails at one turn, and else takes
 // or gives one byte.

@@ -1,5 +1,6 @@
-use crate::{Fields, FieldsOut};
+//! Fields of fixed widths.
 use std::test::Fail;
+use sx_bytes::{Fields, FieldsOut};
 
 /// One field of each kind, and what is left behind it.
 const BYTES: [u8; 34] = [

@@ -1,7 +1,8 @@
-use crate::{Fault, MemRecords, QueryFault, Records, RecordsMut, Refs};
+//! Maps of records.
 use std::alloc::Global;
 use std::test::Fail;
 use sx_tree::record::{PathRecord, Step};
+use sx_view::{Fault, MemRecords, QueryFault, Records, RecordsMut, Refs};
 
 /// A record that can be told from others by its count.
 fn counted(count: u32) -> PathRecord {

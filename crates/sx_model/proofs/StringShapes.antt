@@ -11,6 +11,10 @@ heads a b xs ys e = (cc, cc)
 pub seconds : (a b c d : ℕ) (xs ys : List ℕ) → a ∷ b ∷ xs ≡ c ∷ d ∷ ys → (a ≡ c) × (b ≡ d) × (xs ≡ ys)
 seconds a b c d xs ys e = (cc, cc, cc)
 
+pub same_tail : (word a b : List ℕ) → word ++ a ≡ word ++ b → a ≡ b
+same_tail [] a b e = e
+same_tail (x ∷ xs) a b e = same_tail xs a b (heads x x (xs ++ a) (xs ++ b) e).1
+
 pub nothing_there : (byte : ℕ) (rest : List ℕ) → [] ≡ byte ∷ rest → ⊥
 nothing_there byte rest e = cc
 

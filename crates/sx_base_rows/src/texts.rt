@@ -1,11 +1,10 @@
-use crate::fault::JsonFault;
-use crate::front::read_string;
-use crate::reader::read;
-use crate::writer::write;
+//! JSON texts, read and written.
 use std::alloc::{AllocError, Global};
 use std::test::Fail;
+use sx_json::{JsonFault, read, read_string, write};
 use sx_tree::bytes::Bytes;
 use sx_tree::json::{Items, Json};
+use sx_tree::text::TEXT_BYTES;
 
 fn fault_of(alloc: Global, text: &[u8]) -> Option<JsonFault> {
     read(alloc, text).err()
@@ -55,7 +54,7 @@ fn rewrites(rt: HostRuntime) -> Result<(), Fail> {
     Ok(())
 }
 
-/// Each text, and the fault that is known at its least byte.
+/// Each text, and its fault.
 #[test]
 fn faults(rt: HostRuntime) -> Result<(), Fail> {
     let rows: [(&[u8], JsonFault); 34] = [
@@ -135,6 +134,52 @@ fn strings(rt: HostRuntime) -> Result<(), Fail> {
     for (text, fault) in rows {
         assert_eq!(rt; read_string(rt.alloc(), text).err(), Some(fault));
     }
+    Ok(())
+}
+
+/// A string behind these bytes: as many letters as a text may have bytes, and then more.
+fn full(alloc: Global, before: &[u8], more: &[u8]) -> Result<Bytes, AllocError> {
+    let letters = Vec::from_elem(alloc, b'a', TEXT_BYTES)?;
+    let mut text = Bytes::new(alloc);
+    text.extend_from_slice(before)?;
+    text.push(b'"')?;
+    text.extend_from_slice(&letters)?;
+    text.extend_from_slice(more)?;
+    text.push(b'"')?;
+    Ok(text)
+}
+
+/// What stands behind 1,048,576 letters in a string, whose opening quote stands at 1, and the fault.
+///
+/// A lone surrogate stands for no character, so no byte of it takes the string past the limit, and its own
+/// fault is told. The letter behind a high one shows that this is alone, and would take the string past the
+/// limit: at one byte the fault of the surrogate comes first. The definition agrees, since it tells what is
+/// wrong in a piece before it counts the piece.
+#[test]
+fn full_strings(rt: HostRuntime) -> Result<(), Fail> {
+    let too_long = Some(JsonFault::StringTooLong { at: 1 });
+    let lone = Some(JsonFault::LoneSurrogate { at: 1_048_578 });
+    let bad = Some(JsonFault::BadByte { at: 1_048_578 });
+    let rows: [(&[u8], Option<JsonFault>); 11] = [
+        (b"", None),
+        (b"a", too_long),
+        (b"\xc3\xa9", too_long),
+        (b"\\n", too_long),
+        (b"\\u0041", too_long),
+        (b"\\ud83d\\ude00", too_long),
+        (b"\\udc00", lone),
+        (b"\\ud800", lone),
+        (b"\\ud800a", lone),
+        (b"\n", bad),
+        (b"\xff", bad),
+    ];
+    for (more, fault) in rows {
+        let text = full(rt.alloc(), b" ", more)?;
+        assert_eq!(rt; fault_of(rt.alloc(), text.as_slice()), fault);
+    }
+    let text = full(rt.alloc(), b"", b"")?;
+    let (_, used) = read_string(rt.alloc(), text.as_slice())?;
+    assert_eq!(rt; used, 1_048_578);
     Ok(())
 }
 

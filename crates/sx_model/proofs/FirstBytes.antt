@@ -6,8 +6,8 @@ use Rattle.sx_tree.specs.Number.{IsNumber, IsDigit, IsMinus, IsInt}
 use Rattle.sx_tree.specs.Value.{Value, scalar, array, object, Values, Fields}
 use Rattle.sx_model.specs.Strings.{TextAt}
 use Rattle.sx_model.specs.Faults.{IsFirst}
-use Rattle.sx_model.specs.Grammar.{IsBlank, Led, ValueAt, ElementsAt, MembersAt, names_in}
-use Rattle.sx_json.proofs.StringShapes.{heads, nothing_there}
+use Rattle.sx_model.specs.Grammar.{IsBlank, IsSolid, BeginsOther, Led, ValueAt, ElementsAt, MembersAt, names_in}
+use Rattle.sx_model.proofs.StringShapes.{heads, nothing_there}
 
 pub blank_small : (byte : ℕ) → IsBlank byte → byte ≤ 32
 blank_small byte (inl e) = omega (arith, e)
@@ -100,3 +100,23 @@ blank_not_first byte b (inr (inr (inr (inl e)))) = omega (arith, blank_small byt
 blank_not_first byte b (inr (inr (inr (inr (inl e))))) = omega (arith, blank_small byte b, e)
 blank_not_first byte b (inr (inr (inr (inr (inr (inl e)))))) = omega (arith, blank_small byte b, e)
 blank_not_first byte b (inr (inr (inr (inr (inr (inr e)))))) = omega (arith, blank_small byte b, e)
+
+pub value_solid : (x : Value) (room byte : ℕ) (rest left : List ℕ) → IsBlank byte → ValueAt x room (byte ∷ rest) left → ⊥
+value_solid x room byte rest left blank h = no_value_from x room byte rest left (blank_not_first byte blank) h
+
+pub solid_from : (byte : ℕ) (bytes rest : List ℕ) → 33 ≤ byte → bytes ≡ byte ∷ rest → IsSolid bytes
+solid_from byte bytes rest above is b tail e blank = omega (arith, (heads b byte tail rest (sym e ∙ is)).0, blank_small b blank, above)
+
+-- The bytes begin with another byte than one with which no value begins.
+pub other_first : (v : Value) (room closing : ℕ) (b after : List ℕ) → (IsFirst closing → ⊥) → ValueAt v room b after → BeginsOther closing b
+other_first v room closing b after none h rest is = no_value_from v room closing rest after none (subst (λ l. ValueAt v room l after) is h)
+
+pub bracket_not_first : IsFirst 93 → ⊥
+bracket_not_first (inl e) = omega (arith, e)
+bracket_not_first (inr (inl (inl e))) = omega (arith, e)
+bracket_not_first (inr (inl (inr d))) = omega (arith, d.1)
+bracket_not_first (inr (inr (inl e))) = omega (arith, e)
+bracket_not_first (inr (inr (inr (inl e)))) = omega (arith, e)
+bracket_not_first (inr (inr (inr (inr (inl e))))) = omega (arith, e)
+bracket_not_first (inr (inr (inr (inr (inr (inl e)))))) = omega (arith, e)
+bracket_not_first (inr (inr (inr (inr (inr (inr e)))))) = omega (arith, e)

@@ -1,8 +1,9 @@
-use crate::Record;
+//! Records of nodes and of paths, and their bytes.
 use std::alloc::Global;
 use std::process::Abort;
 use std::test::Fail;
 use sx_bytes::{Fields, FieldsOut};
+use sx_record::Record;
 use sx_tree::record::{Kind, NodeRecord, PathRecord, Step};
 
 /// A node: its bytes, its kind, its links, its numbers, and its label.

@@ -1,0 +1,15 @@
+//! The base crates by their public calls alone. The crate has tests alone.
+#![tactic(auto)]
+
+#[cfg(test)]
+mod fields;
+#[cfg(test)]
+mod maps;
+#[cfg(test)]
+mod outside;
+#[cfg(test)]
+mod records;
+#[cfg(test)]
+mod texts;
+#[cfg(test)]
+mod trees;
