@@ -1,5 +1,5 @@
 -- What a change in a hole leaves of a sound state.
-use Rattle.std.proofs.Common.{◌≡◌, ◌≤◌, ◌<◌, ◌+◌, ◌*◌, ℕ, zero, suc, Bool, true, false, cond, not, ◌&&◌, ◌||◌, List, [], ◌∷◌, ◌++◌, map, length, max, slice_get, Option, Some, None, Result, Ok, Err, inl, inr, refl, ap, sym, subst, ◌∙◌, arith, append_assoc, append-nil, nat_lt, length-append}
+use Rattle.std.proofs.Common.{◌≡◌, ◌≤◌, ◌+◌, ℕ, suc, Bool, true, false, cond, not, ◌&&◌, ◌||◌, List, [], ◌∷◌, ◌++◌, map, length, max, slice_get, Option, Some, None, refl, ap, sym, subst, ◌∙◌, arith, append_assoc, append-nil, nat_lt, length-append}
 use Rattle.std.specs.Prelude.{IsTrue, bytes_eq, find, filter, is_none, is_some, option_map, option_and_then, sum_by, ◌==◌}
 use Rattle.std.specs.List.{list_any}
 use Rattle.std.proofs.lemmas.Bool.{false≢true}
@@ -12,7 +12,6 @@ use Rattle.std.proofs.lemmas.Grind.{common_steps}
 use Rattle.sx_tree.specs.declared.edit.EditRefusal.{EditRefusal}
 use Rattle.sx_tree.specs.declared.record.Kind.{Kind}
 use Rattle.sx_tree.specs.declared.record.Kind.TheVariants.{Document, Object, Array, Key, Str, Number, Bool as Truth, Null}
-use Rattle.sx_tree.specs.declared.record.Step.{Step}
 use Rattle.sx_tree.specs.declared.json.Scalar.{Scalar}
 use Rattle.sx_tree.specs.declared.json.Scalar.TheVariants as scalars
 use Rattle.sx_tree.specs.Text.{IsText}
@@ -25,10 +24,10 @@ use Rattle.sx_model.specs.Sound.{AreBelow, IsSound}
 use Rattle.sx_model.specs.State.{State}
 use Rattle.sx_model.specs.Tree.{Node, Forest, no_trees, tree_then, beside, numbers, tops, nesting, AreApart, AreDistinctNumbers, HasChildren, FitBelow, IsLabelOf, IsWellFormed, is_key, is_scalar, is_object, is_document, is_value, may_stand, may_stand_below, levels}
 use Rattle.sx_model.proofs.Accepted.{when_none}
-use Rattle.sx_model.proofs.Apart.{apart_front, apart_back, apart-without, apart-with, below_front, below_back, below_join, below_more, up_from, up_from_below, up_from_apart, up_from_away}
-use Rattle.sx_model.proofs.NumberedTrees.{scalar_number, scalar_nesting, scalar_fits, numbers-numbered, nesting-numbered, fit-numbered, tops-numbered, top_of, TakesValues}
-use Rattle.sx_model.proofs.Spots.{has, has-append, distinct_apart, distinct_front, distinct_back}
-use Rattle.sx_model.proofs.Plugging.{fit_front, fit_back, fit_join, tops-beside, numbers-beside, nesting-beside, Stand, above, stand_inside, stand_outside, numbers_before, numbers_behind, numbers-plug, levels_above, nesting_around, nesting-plug}
+use Rattle.sx_model.proofs.Apart.{apart-without, apart-with, below_front, below_back, below_join, below_more, up_from, up_from_below, up_from_apart, up_from_away}
+use Rattle.sx_model.proofs.NumberedTrees.{scalar_number, scalar_fits, numbers-numbered, nesting-numbered, fit-numbered, tops-numbered, top_of, TakesValues}
+use Rattle.sx_model.proofs.Spots.{has, has-append, distinct_apart, distinct_back}
+use Rattle.sx_model.proofs.Plugging.{fit_front, fit_back, fit_join, tops-beside, numbers-beside, nesting-beside, Stand, above, stand_inside, stand_outside, numbers_before, numbers_behind, numbers-plug, levels_above, nesting-plug}
 
 -- ---- some numbers go, and the next ones come
 

@@ -1,18 +1,18 @@
 -- The tree of a value: its numbers, its nesting, and that it stands where a value may.
-use Rattle.std.proofs.Common.{◌≡◌, ◌≤◌, ◌<◌, ◌+◌, ℕ, zero, suc, Bool, true, false, ◌||◌, List, [], ◌∷◌, ◌++◌, map, length, max, slice_get, Option, Some, None, inl, inr, refl, ap, sym, subst, ◌∙◌, arith, append_assoc, append-nil}
-use Rattle.std.specs.Prelude.{IsTrue, bytes_eq}
+use Rattle.std.proofs.Common.{◌≡◌, ◌+◌, ℕ, suc, Bool, true, false, ◌||◌, List, [], ◌∷◌, ◌++◌, map, length, max, slice_get, Option, Some, inl, inr, refl, ap, sym, subst, ◌∙◌, arith, append-nil}
+use Rattle.std.specs.Prelude.{bytes_eq}
 use Rattle.std.specs.List.{list_any}
 use Rattle.std.proofs.lemmas.Slice.Eq.{bytes_eq-Decides}
 use Rattle.sx_tree.specs.declared.json.Scalar.{Scalar}
 use Rattle.sx_tree.specs.declared.json.Scalar.TheVariants as scalars
 use Rattle.sx_tree.specs.declared.record.Kind.{Kind}
-use Rattle.sx_tree.specs.declared.record.Kind.TheVariants.{Document, Object, Array, Key, Str, Number, Bool as Truth, Null}
+use Rattle.sx_tree.specs.declared.record.Kind.TheVariants.{Object, Array, Key, Str, Number, Bool as Truth, Null}
 use Rattle.sx_tree.specs.Names.{AreDistinct}
 use Rattle.sx_tree.specs.Value.{Value, Values, Fields, scalar, array, object, no_values, value_then, no_fields, field_then, depth, depth_of_values, depth_of_fields, nodes, nodes_of_values, nodes_of_fields}
 use Rattle.sx_model.specs.Grammar.{names_in}
 use Rattle.sx_model.specs.Limits.{KeepsLimits, ElementsKeepLimits, MembersKeepLimits, ScalarKeepsLimits}
 use Rattle.sx_model.specs.Numbered.{scalar_node, numbered, numbered_values, numbered_fields}
-use Rattle.sx_model.specs.Tree.{Node, Forest, no_trees, tree_then, numbers, tops, nesting, is_value, may_stand, AreApart, HasChildren, FitBelow}
+use Rattle.sx_model.specs.Tree.{Node, Forest, no_trees, tree_then, numbers, tops, nesting, is_value, may_stand, AreApart, FitBelow}
 use Rattle.sx_model.proofs.Apart.{up_from, up_from-add}
 
 -- ---- numbers

@@ -1,13 +1,12 @@
 -- Each accepted edit of a sound state leaves a sound one, and numbers never fall.
-use Rattle.std.proofs.Common.{◌≡◌, ◌≤◌, ◌+◌, ℕ, suc, Bool, true, false, cond, not, ◌&&◌, List, [], ◌∷◌, map, length, Option, Some, None, Result, Ok, Err, refl, ap, sym, subst, ◌∙◌, arith, nat_lt}
+use Rattle.std.proofs.Common.{◌≡◌, ◌≤◌, ◌+◌, ℕ, Bool, true, false, cond, not, ◌&&◌, List, [], ◌∷◌, map, length, Option, Some, None, Result, Ok, Err, refl, ap, sym, subst, ◌∙◌, arith, nat_lt}
 use Rattle.std.specs.Prelude.{is_none, is_some, option_and_then, sum_by, filter, ◌==◌}
 use Rattle.std.specs.Prelude.{ℤ, IsOk}
 use Rattle.std.specs.Result.{result_unwrap_or}
 use Rattle.std.proofs.lemmas.Bool.{false≢true}
 use Rattle.std.proofs.lemmas.Bool.Decides.{nat_tests}
-use Rattle.std.proofs.lemmas.Grind.{common_steps}
 use Rattle.sx_tree.specs.declared.edit.EditRefusal.{EditRefusal}
-use Rattle.sx_tree.specs.declared.edit.EditRefusal.TheVariants.{NameMissing, NameUnasked, NumbersSpent, PathsSpent, WrongKind}
+use Rattle.sx_tree.specs.declared.edit.EditRefusal.TheVariants.{NameMissing, NameUnasked}
 use Rattle.sx_tree.specs.declared.edit.Place.{Place}
 use Rattle.sx_tree.specs.declared.edit.Place.TheVariants.{First, Last, Before, After}
 use Rattle.sx_tree.specs.declared.json.Scalar.{Scalar}
@@ -22,7 +21,7 @@ use Rattle.sx_model.specs.Numbered.{numbered, scalar_node}
 use Rattle.sx_model.specs.Sound.{IsSound}
 use Rattle.sx_model.specs.State.{State, empty_document}
 use Rattle.sx_model.specs.Tree.{Node, Forest, no_trees, tree_then, beside, tops, levels, is_key, is_scalar, is_value, is_object, may_stand, Spot, spot, change_at}
-use Rattle.sx_model.proofs.Accepted.{NoneStands, unless_ok, when_none, there_ok, place_ok}
+use Rattle.sx_model.proofs.Accepted.{unless_ok, when_none, there_ok, place_ok}
 use Rattle.sx_model.proofs.Changes.{IsChange, sound-change, insert_change, replace_change, remove_change, set_change, rename_change, entering_nodes, scalar_takes_none, fit_here}
 use Rattle.sx_model.proofs.Plugging.{above, levels_above}
 use Rattle.sx_model.proofs.Spots.{Found, spot_stands, beside_assoc}

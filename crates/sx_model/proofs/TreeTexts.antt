@@ -1,12 +1,11 @@
 -- The text of the tree that a value becomes.
 use Rattle.std.proofs.Common.{◌≡◌, ◌+◌, ℕ, suc, Bool, true, false, List, [], ◌∷◌, ◌++◌, refl, ap, sym, ◌∙◌, append_assoc, append-nil}
-use Rattle.std.specs.Prelude.{codes}
 use Rattle.sx_tree.specs.declared.json.Scalar.{Scalar}
 use Rattle.sx_tree.specs.declared.json.Scalar.TheVariants as scalars
 use Rattle.sx_tree.specs.Value.{Value, Values, Fields, scalar, array, object, no_values, value_then, no_fields, field_then, nodes}
 use Rattle.sx_model.specs.Canonical.{text, scalar_text, string_text, elements_text, more_elements_text, members_text, more_members_text}
 use Rattle.sx_model.specs.Numbered.{scalar_node, numbered, numbered_values, numbered_fields}
-use Rattle.sx_model.specs.Tree.{Forest, no_trees, tree_then}
+use Rattle.sx_model.specs.Tree.{Forest, no_trees}
 use Rattle.sx_model.specs.TreeText.{texts, opening, closing, comma}
 
 texts-scalar : (s : Scalar) (n : ℕ) → opening (scalar_node n s).kind (scalar_node n s).label ++ closing (scalar_node n s).kind ≡ scalar_text s
