@@ -1,6 +1,8 @@
 -- Edits of a document: when each is refused, and what it leaves.
 use Rattle.std.specs.Prelude.{ℕ, ◌+◌, ◌-◌, ◌^◌, ◌==◌, ◌&&◌, nat_lt, min, not, Bool, false, true, if◌then◌else◌, List, [], ◌∷◌, length, find, filter, Option, None, Some, is_some, is_none, option_map, option_and_then, bytes_eq, sum_by, Result, Ok, Err, IsOk}
 use Rattle.std.specs.Result.{result_unwrap_or}
+use Rattle.sx_tree.specs.declared.edit.Edit as plain
+use Rattle.sx_tree.specs.declared.edit.Edit.TheVariants as plains
 use Rattle.sx_tree.specs.declared.edit.Edited.{Edited}
 use Rattle.sx_tree.specs.declared.edit.EditRefusal.{EditRefusal}
 use Rattle.sx_tree.specs.declared.edit.EditRefusal.TheVariants.{NoNode, WrongKind, NameTaken, DocumentFull, TooDeep, NumbersSpent, NameMissing, NameUnasked, PathsSpent}
@@ -8,7 +10,7 @@ use Rattle.sx_tree.specs.declared.edit.Place.{Place}
 use Rattle.sx_tree.specs.declared.edit.Place.TheVariants.{First, Last, Before, After}
 use Rattle.sx_tree.specs.declared.json.Scalar.{Scalar}
 use Rattle.sx_tree.specs.declared.record.Kind.TheVariants.{Key}
-use Rattle.sx_tree.specs.Value.{Value, depth, nodes}
+use Rattle.sx_tree.specs.Value.{Value, value_of, depth, nodes}
 use Rattle.sx_tree.specs.Text.{IsText}
 use Rattle.sx_model.specs.Limits.{KeepsLimits, ScalarKeepsLimits}
 use Rattle.sx_model.specs.Numbered.{numbered, scalar_node}
@@ -29,6 +31,15 @@ pub data Edit : Type 0 where
   rename : ℕ → List ℕ → Edit
   -- the node goes with all below it
   remove : ℕ → Edit
+
+-- the edit that a plain one is
+abbrev pub edit_of : plain.Edit → Edit
+edit_of (plains.Load value) = load (value_of value)
+edit_of (plains.Insert place name value) = insert place name (value_of value)
+edit_of (plains.SetScalar k s) = set_scalar k s
+edit_of (plains.Replace k value) = replace k (value_of value)
+edit_of (plains.Rename k name) = rename k name
+edit_of (plains.Remove k) = remove k
 
 -- node numbers are below this one
 abbrev pub number_limit : ℕ
