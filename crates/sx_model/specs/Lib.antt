@@ -10,6 +10,7 @@ pub mod Holes
 pub mod Limits
 pub mod NumberDocuments
 pub mod Numbered
+pub mod PathText
 pub mod Paths
 pub mod Records
 pub mod Selection
