@@ -2,7 +2,7 @@
 use Rattle.std.proofs.Common.{◌≡◌, ◌∙◌, ℕ, ℤ, List, [], ◌∷◌, ◌++◌, length, Bool, true, false, Result, Ok, Err, refl, ap, sym, subst, append_assoc, append-nil, FitsSigned, w64, arith, IsOk, MatchResult, nat_le}
 use Rattle.std.proofs.lemmas.Int.{ints}
 use Rattle.std.specs.Int.{int_max}
-use Rattle.std.specs.Prelude.{◌≤ℤ◌, ◌≤◌, int_lt, cond, T}
+use Rattle.std.specs.Prelude.{◌≤ℤ◌, int_lt, cond, T}
 use Rattle.sx_tree.specs.Number.{IsLiteral}
 use lib.Signed.{lt_z_yes}
 use Rattle.std.specs.Bool.{MatchBool}
