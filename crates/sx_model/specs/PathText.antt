@@ -22,10 +22,20 @@ abbrev pub IsWord : List ℕ → Type 0
 IsWord [] = ⊥
 IsWord (byte ∷ bytes) = IsLetter byte × AreWordBytes bytes
 
--- a name at the front of the bytes, as a word or as a JSON string, and what is left behind it
+-- a word begins with these bytes
+abbrev pub BeginsWord : List ℕ → Type 0
+BeginsWord [] = ⊥
+BeginsWord (byte ∷ bytes) = IsLetter byte
+
+-- no word goes on with these bytes
+abbrev pub EndsWord : List ℕ → Type 0
+EndsWord [] = Unit {0}
+EndsWord (byte ∷ bytes) = IsWordByte byte → ⊥
+
+-- a name at the front of the bytes, as a whole word or as a JSON string, and what is left behind it
 abbrev pub NameAt : List ℕ → List ℕ → List ℕ → Type 0
 NameAt bytes name left =
-    (IsWord name × IsText name × (bytes ≡ name ++ left)) ⊎ ((inside : List ℕ) × (bytes ≡ 34 ∷ inside) × TextAt inside name left)
+    (IsWord name × IsText name × EndsWord left × (bytes ≡ name ++ left)) ⊎ ((inside : List ℕ) × (bytes ≡ 34 ∷ inside) × TextAt inside name left)
 
 -- `/NAME`, `[]` or `//NAME` at the front of the bytes
 abbrev pub StepAt : List ℕ → PathStep → List ℕ → Type 0
