@@ -32,10 +32,17 @@ abbrev pub EndsWord : List ℕ → Type 0
 EndsWord [] = Unit {0}
 EndsWord (byte ∷ bytes) = IsWordByte byte → ⊥
 
--- a name at the front of the bytes, as a whole word or as a JSON string, and what is left behind it
+-- a whole word at the front of the bytes, and what is left behind it
+abbrev pub WordAt : List ℕ → List ℕ → List ℕ → Type 0
+WordAt bytes name left = IsWord name × IsText name × EndsWord left × (bytes ≡ name ++ left)
+
+-- a JSON string at the front of the bytes (RFC 8259, section 7), what it stands for, and what is left behind it
+abbrev pub QuotedAt : List ℕ → List ℕ → List ℕ → Type 0
+QuotedAt bytes name left = (inside : List ℕ) × (bytes ≡ 34 ∷ inside) × TextAt inside name left
+
+-- a name as a word or as a string
 abbrev pub NameAt : List ℕ → List ℕ → List ℕ → Type 0
-NameAt bytes name left =
-    (IsWord name × IsText name × EndsWord left × (bytes ≡ name ++ left)) ⊎ ((inside : List ℕ) × (bytes ≡ 34 ∷ inside) × TextAt inside name left)
+NameAt bytes name left = WordAt bytes name left ⊎ QuotedAt bytes name left
 
 -- `/NAME`, `[]` or `//NAME` at the front of the bytes
 abbrev pub StepAt : List ℕ → PathStep → List ℕ → Type 0
