@@ -1,20 +1,14 @@
 -- What the fields of a volume in memory stand for.
-use Rattle.std.specs.Prelude.{◌≡◌, ℕ, ◌+◌, ◌≤◌, List, Option, None, Some, map, vec_len, vec_capacity}
+use Rattle.std.specs.Prelude.{◌≡◌, ℕ, ◌+◌, ◌≤◌, map, vec_len, vec_capacity}
 use Rattle.std.specs.Arc.{arc_value}
 use Rattle.sx_volume.specs.Change.{Change, Appended, Put, Cut, Synced}
 use Rattle.sx_volume.specs.Content.{pending_in}
-use Rattle.sx_volume.specs.Held.{held_end}
+use Rattle.sx_volume.specs.Held.{held_end, place_and_bytes}
 use Rattle.sx_volume.specs.Medium.{Medium}
 use Rattle.sx_volume.specs.Replay.{pending_after}
 use Rattle.sx_volume.specs.declared.mem_volume.Call.{Call}
 use Rattle.sx_volume.specs.declared.mem_volume.Call.TheVariants as call
-use Rattle.sx_volume.specs.declared.mem_volume.HeldPiece.{HeldPiece}
 use Rattle.sx_volume.specs.declared.mem_volume.MemVolume.TheInside.{Inside}
-
--- the place and the bytes of the held piece
-abbrev pub place_and_bytes : Option HeldPiece → Option (ℕ × List ℕ)
-place_and_bytes None = None
-place_and_bytes (Some held) = Some (held.at, (arc_value held.piece).items)
 
 abbrev pub change_of : Call → Change
 change_of (call.Append piece) = Appended (arc_value piece).items

@@ -11,6 +11,7 @@
 mod content;
 mod counter;
 mod end;
+mod held_piece;
 mod mem_end;
 mod mem_spot;
 mod mem_volume;
@@ -18,6 +19,7 @@ mod spot;
 mod volume;
 
 pub use end::ReadEnd;
+pub use held_piece::{HeldPiece, range_of};
 pub use mem_end::MemEnd;
 pub use mem_spot::MemSpot;
 pub use mem_volume::MemVolume;

@@ -1,17 +1,17 @@
-ghost use Rattle.std.specs.Prelude.{◌≡◌, ◌+◌, ◌-◌, ◌++◌, ◌<◌, ◌≤◌, ◌↔◌, ◌⊎◌, [], ◌∷◌, List, Option, Some, None, ℕ, IsTrue, IsSome, length, take, drop, slice_set, IsErr, OnOk, OnErr, IfOk, IfSome, MatchOption};
+ghost use Rattle.std.specs.Prelude.{◌≡◌, ◌+◌, ◌-◌, ◌++◌, ◌<◌, ◌≤◌, ◌↔◌, ◌⊎◌, [], ◌∷◌, List, Option, Some, None, ℕ, IsTrue, IsSome, length, take, drop, slice_set, IsErr, OnOk, OnErr, IfOk, IfSome};
 ghost use Rattle.std.specs.Arc.{arc_value};
 ghost use Rattle.sx_outside.specs.Faults.{Rose};
 ghost use Rattle.sx_volume.specs.Change.{AreBytes, image_of};
 ghost use Rattle.sx_volume.specs.Counts.{plus};
 ghost use Rattle.sx_volume.specs.Held.{IsHeldFor, LiesInHeld, held_piece, held_range};
 ghost use Rattle.sx_volume.specs.Images.{Only, IsWithin, Follows, Appends, Puts, Cuts, Elapses, NoSync, Syncs};
-ghost use Rattle.sx_volume.specs.Kept.{place_and_bytes};
 ghost use Rattle.sx_volume.specs.Medium.{Medium, pending, bytes_of, is_calm, moment_of, MayLeave, MayHaveLeft, HadSync, after_failure, after_read, after_failed_read, after_append, after_put, after_cut, after_sync};
 ghost use Rattle.sx_volume.specs.Replay.{counts_now, only_now, synced_by_now, told_length, as_read};
 ghost use Rattle.sx_volume.specs.Tally.{FailsNext};
 
 use crate::content::Content;
 use crate::counter::Counter;
+use crate::held_piece::{HeldPiece, range_of};
 use crate::{MemEnd, MemSpot, Volume};
 use std::alloc::{AllocError, Global};
 use std::marker::Model;
@@ -25,12 +25,6 @@ enum Call {
     PutByte { at: usize, byte: u8 },
     Cut { len: usize },
     Sync,
-}
-
-#[derive(Drop)]
-struct HeldPiece {
-    at: u64,
-    piece: Arc<Vec<u8>>,
 }
 
 /// A volume in memory, which tells its bytes and fails where it is told to.
@@ -170,22 +164,6 @@ impl MemVolume {
         self.spare -= 1;
         Ok(())
     }
-}
-
-// The range of the held piece, where it lies there.
-fn range_of(held: &Option<HeldPiece>, at: u64, count: u32) -> Option<&[u8]>
-    ensures { MatchOption result
-        (LiesInHeld (place_and_bytes held.now) at count → ⊥)
-        (λ range. LiesInHeld (place_and_bytes held.now) at count
-        × (range.now ≡ held_range (place_and_bytes held.now) at count)) }
-{
-    let held = held.as_ref()?;
-    let start = at.checked_sub(held.at)? as usize;
-    let piece = held.piece.as_slice();
-    if start > piece.len() || count as usize > piece.len() - start {
-        return None;
-    }
-    Some(&piece[start..start + count as usize])
 }
 
 impl Volume for MemVolume {
