@@ -3,3 +3,4 @@ mod Image
 pub mod Images
 mod Told
 mod Steps
+pub mod Recorded

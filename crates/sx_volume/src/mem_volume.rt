@@ -9,35 +9,21 @@ ghost use Rattle.sx_volume.specs.Medium.{Medium, pending, bytes_of, is_calm, mom
 ghost use Rattle.sx_volume.specs.Replay.{counts_now, only_now, synced_by_now, told_length, as_read};
 ghost use Rattle.sx_volume.specs.Tally.{FailsNext};
 
-use crate::content::Content;
-use crate::counter::Counter;
 use crate::held_piece::{HeldPiece, range_of};
-use crate::{MemEnd, MemSpot, Volume};
+use crate::{MemEnd, MemFile, MemSpot, Volume};
 use std::alloc::{AllocError, Global};
 use std::marker::Model;
 use std::sync::Arc;
 use sx_outside::Failed;
 
-// A call that changed the volume or synced it.
-#[derive(Drop)]
-enum Call {
-    Append(Arc<Vec<u8>>),
-    PutByte { at: usize, byte: u8 },
-    Cut { len: usize },
-    Sync,
-}
-
 /// A volume in memory, which tells its bytes and fails where it is told to.
 ///
-/// It keeps a record of its calls, from which all that a crash may leave at each moment is known.
+/// It stands on a file in memory, whose record of calls tells all that a crash may leave at each moment.
 #[derive(Drop)]
 pub struct MemVolume {
-    first: Vec<u8>,
-    calls: Vec<Call>,
-    content: Content,
+    file: MemFile,
     held: Option<HeldPiece>,
     spare: usize,
-    tally: Counter,
     bytes_read: u64,
 }
 
@@ -46,11 +32,11 @@ impl Model for MemVolume {
 
     ghost Value = { Medium };
 
-    ghost use Rattle.sx_volume.specs.Kept.{medium_in, IsKept};
+    ghost use Rattle.sx_volume.specs.Kept.{medium_in, HasRoom};
 
     ghost view = { medium_in };
 
-    ghost invariant = { IsKept };
+    ghost invariant = { HasRoom };
 }
 
 impl MemVolume {
@@ -70,12 +56,9 @@ impl MemVolume {
         ensures kept { IfOk result (λ volume. Only bytes.items (MayLeave volume)) }
     {
         Ok(MemVolume {
-            first: bytes.to_vec(alloc)?,
-            calls: Vec::new(alloc),
-            content: Content::new(alloc, bytes),
+            file: MemFile::new(alloc, bytes, failing)?,
             held: None,
             spare: 0,
-            tally: Counter::new(failing),
             bytes_read: 0,
         })
     }
@@ -84,7 +67,7 @@ impl MemVolume {
     pub fn as_slice(&self) -> &[u8]
         ensures { result.now ≡ bytes_of self.now }
     {
-        &self.content.bytes
+        self.file.as_slice()
     }
 
     /// One of the images that a crash may leave now. Behind the least length since the last sync that succeeded it has
@@ -95,7 +78,7 @@ impl MemVolume {
         ensures value { IfOk result (λ image. image.items ≡ image_of (pending self.now) tail.now gate) }
         ensures image { IfOk result (λ image. MayLeave self.now image.items) }
     {
-        self.content.image(alloc, tail, gate)
+        self.file.image(alloc, tail, gate)
     }
 
     // What `append` does.
@@ -108,12 +91,11 @@ impl MemVolume {
         ensures failed { OnErr result (self.new ≡ after_failure self.old) }
         ensures never_falls { self.old.tally.faults ≤ self.new.tally.faults }
     {
-        self.tally.count()?;
-        let Some(HeldPiece { at: _, piece }) = self.held.take() else {
+        let Some(held) = &self.held else {
             unreachable!("the caller holds a piece");
         };
-        self.content.append(piece.as_slice());
-        self.calls.push_reserved(Call::Append(piece));
+        self.file.append(held.piece.as_slice())?;
+        self.held = None;
         self.spare -= 1;
         Ok(())
     }
@@ -127,9 +109,7 @@ impl MemVolume {
         ensures failed { OnErr result (self.new ≡ after_failure self.old) }
         ensures never_falls { self.old.tally.faults ≤ self.new.tally.faults }
     {
-        self.tally.count()?;
-        self.content.put(at, byte);
-        self.calls.push_reserved(Call::PutByte { at, byte });
+        self.file.put(at, byte)?;
         self.spare -= 1;
         Ok(())
     }
@@ -143,9 +123,7 @@ impl MemVolume {
         ensures failed { OnErr result (self.new ≡ after_failure self.old) }
         ensures never_falls { self.old.tally.faults ≤ self.new.tally.faults }
     {
-        self.tally.count()?;
-        self.content.cut(len);
-        self.calls.push_reserved(Call::Cut { len });
+        self.file.cut(len)?;
         self.spare -= 1;
         Ok(())
     }
@@ -158,9 +136,7 @@ impl MemVolume {
         ensures failed { OnErr result (self.new ≡ after_failure self.old) }
         ensures never_falls { self.old.tally.faults ≤ self.new.tally.faults }
     {
-        self.tally.count()?;
-        self.content.sync();
-        self.calls.push_reserved(Call::Sync);
+        self.file.sync()?;
         self.spare -= 1;
         Ok(())
     }
@@ -204,7 +180,7 @@ impl Volume for MemVolume {
     ghost reads = { λ volume. as_read volume.first volume.changes };
 
     fn len(&self) -> u64 {
-        self.content.bytes.len() as u64
+        self.file.as_slice().len() as u64
     }
 
     fn read_at(&mut self, at: u64, room: &mut [u8]) -> Result<(), Failed>
@@ -228,10 +204,7 @@ impl Volume for MemVolume {
         ensures failed { OnErr result (self.new ≡ after_failed_read self.old (length room.old)) }
     {
         self.bytes_read = self.bytes_read.saturating_add(room.len() as u64);
-        self.tally.count()?;
-        let at = at as usize;
-        room.copy_from_slice(&self.content.bytes[at..at + room.len()]);
-        Ok(())
+        self.file.read(at as usize, room)
     }
 
     fn hold(&mut self, _alloc: Global, at: u64, piece: Arc<Vec<u8>>) -> Result<(), AllocError>
@@ -251,8 +224,8 @@ impl Volume for MemVolume {
         ensures holds { OnOk result (self.new ≡ record self.old { held = Some (at, (arc_value piece).items) }) }
         ensures refused { OnErr result (self.new ≡ self.old) }
     {
-        let end = (at as usize).checked_add(piece.len()).ok_or(AllocError)?;
-        self.content.reserve_to(end)?;
+        let room = piece.len().checked_add(self.spare).ok_or(AllocError)?;
+        self.file.reserve(room)?;
         self.held = Some(HeldPiece { at, piece });
         Ok(())
     }
@@ -276,8 +249,9 @@ impl Volume for MemVolume {
     {
         let calls = calls as usize;
         if self.spare < calls {
-            self.calls.reserve(calls)?;
-            self.content.places.reserve(calls)?;
+            let held = self.held.as_ref().map_or(0, |held| held.piece.len());
+            self.file
+                .reserve(held.checked_add(calls).ok_or(AllocError)?)?;
             self.spare = calls;
         }
         Ok(())
@@ -381,7 +355,7 @@ impl Volume for MemVolume {
     fn spot(&self, alloc: Global, at: u64, count: u32) -> Result<MemSpot, AllocError> {
         let range = match range_of(&self.held, at, count) {
             Some(range) => range,
-            None => &self.content.bytes[at as usize..at as usize + count as usize],
+            None => &self.file.as_slice()[at as usize..at as usize + count as usize],
         };
         MemSpot::new(alloc, range)
     }
