@@ -1,1 +1,3 @@
+pub mod Cut
 pub mod Ends
+pub mod Written

@@ -5,6 +5,7 @@ mod file;
 mod file_end;
 mod file_spot;
 mod file_volume;
+mod mem_file;
 mod opening;
 mod std_file;
 

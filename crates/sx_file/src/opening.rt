@@ -2,11 +2,10 @@ ghost use Rattle.std.specs.Prelude.{◌≡◌, IfOk, vec_len};
 
 use crate::{File, FileEnd, FileVolume, StdFile};
 use std::alloc::Global;
-use std::fs;
 use std::fs::{Files, OpenOptions};
-use std::io;
 use std::io::ErrorKind;
 use std::path::Path;
+use std::{fs, io};
 use sx_volume::Volume;
 
 /// A real file that is open as a volume, with the ends that read beside it.

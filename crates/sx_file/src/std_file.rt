@@ -3,9 +3,8 @@ ghost use Rattle.sx_outside.specs.Faults.{Rose};
 
 use crate::{File, FileEnd, FileSpot};
 use std::alloc::{AllocError, Global};
-use std::fs;
-use std::io;
 use std::os::unix::fs::FileExt;
+use std::{fs, io};
 use sx_outside::Failed;
 
 /// A real file, by one handle. It tells nothing: each call asks the system once, and each error is a fault.

@@ -1,4 +1,4 @@
-use Rattle.std.proofs.Common.{◌≡◌, ℕ, List, ◌∙◌, sym, ap}
+use Rattle.std.proofs.Common.{◌≡◌, ◌∙◌, sym, ap}
 use Rattle.sx_volume.specs.Held.{held_piece, place_and_bytes}
 use Rattle.sx_file.proofs.Ends.{follows_append, since_look}
 use Rattle.sx_file.proofs.file_volume.FileVolumeVolume.append.Goals as goal

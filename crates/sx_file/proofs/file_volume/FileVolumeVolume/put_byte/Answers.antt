@@ -1,5 +1,4 @@
-use Rattle.std.proofs.Common.{◌<◌, ◌∙◌}
-use Rattle.sx_file.specs.Length.{length_in}
+use Rattle.std.proofs.Common.{◌∙◌}
 use Rattle.sx_file.proofs.Ends.{follows_put, put_length, told_put}
 use Rattle.sx_file.proofs.file_volume.FileVolumeVolume.put_byte.Goals as goal
 
