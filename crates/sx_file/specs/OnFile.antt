@@ -9,6 +9,4 @@ pub record OnFile (F : Type 0) : Type 0 where
   pub held : Option (ℕ × List ℕ)
   -- nothing was written since the last sync that succeeded
   pub calm : Bool
-  -- how many appends the volume itself refused, since the length would have passed 2^64 - 1; it stands still there
-  pub refused : ℕ
   pub bytes_read : ℕ

@@ -61,9 +61,11 @@ pub trait File {
         ensures no_sync { NoSync (synced self.old) (synced self.new) }
         ensures time { Elapses (moment self.old) (moment self.new) (was_image self.old) (was_image self.new) (synced self.old) (synced self.new) };
 
-    /// Writes the piece at a place within the file or at its end. At `Failed` it may be written in part.
+    /// Writes the piece at a place within the file or at its end. At `Failed` it may be written in part. A file has fewer
+    /// than 2^64 bytes, and a write that would make it longer fails.
     fn write_at(&mut self, at: u64, piece: &[u8]) -> Result<(), Failed>
         requires place { ForSome (bytes self.old) (λ all. at ≤ length all) }
+        ensures fits { OnOk result (at + length piece.now < 2 ^ 64) }
         ensures written { OnOk result (bytes self.new ≡ option_map (with_piece at piece.now) (bytes self.old)) }
         ensures in_part { OnErr result (IsInPart at (at + length piece.now) (bytes self.old) (bytes self.new)) }
         ensures cause { OnErr result (Rose (faults self.old) (faults self.new)) }

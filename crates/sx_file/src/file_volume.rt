@@ -1,7 +1,6 @@
 ghost use Rattle.std.specs.Prelude.{◌≡◌, ◌≤◌, ◌-◌, ◌^◌, None, false, length};
 ghost use Rattle.std.specs.Option.{ForSome};
 ghost use Rattle.sx_outside.specs.Faults.{Rose};
-ghost use Rattle.sx_volume.specs.Counts.{plus};
 ghost use Rattle.sx_volume.specs.Images.{IsWithin, Elapses, NoSync};
 ghost use Rattle.sx_file.specs.Length.{length_in, told_length};
 
@@ -14,8 +13,7 @@ use sx_volume::{HeldPiece, Volume, range_of};
 
 /// A volume over a file. It tells its bytes where the file does.
 ///
-/// Each fault of the file is one of the volume, and so is an append that would make the length 2^64 or more, which the
-/// file is not asked for. What a call that failed leaves is found by asking the length.
+/// It fails only where the file does. What a call that failed leaves is found by asking the length.
 /// Its calls need no memory, so that they are always ready.
 #[derive(Drop)]
 pub struct FileVolume<F: File> {
@@ -23,7 +21,6 @@ pub struct FileVolume<F: File> {
     size: u64,
     held: Option<HeldPiece>,
     calm: bool,
-    refused: u64,
     bytes_read: u64,
 }
 
@@ -40,7 +37,6 @@ impl<F: File> Model for FileVolume<F> {
       size = v.size;
       held = place_and_bytes v.held;
       calm = v.calm;
-      refused = v.refused;
       bytes_read = v.bytes_read;
     } };
 
@@ -56,7 +52,6 @@ impl<F: File> FileVolume<F> {
           size = size;
           held = None;
           calm = false;
-          refused = 0;
           bytes_read = 0;
         } }
     {
@@ -65,7 +60,6 @@ impl<F: File> FileVolume<F> {
             size,
             held: None,
             calm: false,
-            refused: 0,
             bytes_read: 0,
         }
     }
@@ -95,7 +89,7 @@ impl<F: File> Volume for FileVolume<F> {
 
     ghost size = { λ volume. length_in (F.bytes volume.file) volume.size };
 
-    ghost faults = { λ volume. plus (F.faults volume.file) volume.refused };
+    ghost faults = { λ volume. F.faults volume.file };
 
     ghost spare = { λ _. 2 ^ 32 - 1 };
 
@@ -145,19 +139,16 @@ impl<F: File> Volume for FileVolume<F> {
         let Some(held) = &self.held else {
             unreachable!("the caller holds a piece");
         };
-        let Some(end) = self.size.checked_add(held.piece.len() as u64) else {
-            self.refused = self.refused.saturating_add(1);
-            return Err(Failed);
-        };
+        let count = held.piece.len() as u64;
         self.calm = false;
         match self.file.write_at(self.size, held.piece.as_slice()) {
             Ok(()) => {
                 self.held = None;
-                self.size = end;
+                self.size += count;
                 Ok(())
             }
             Err(Failed) => {
-                self.size = length_or(&mut self.file, end);
+                self.size = length_or(&mut self.file, self.size.saturating_add(count));
                 Err(Failed)
             }
         }

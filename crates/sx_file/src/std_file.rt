@@ -76,7 +76,10 @@ impl File for StdFile {
     }
 
     fn write_at(&mut self, at: u64, piece: &[u8]) -> Result<(), Failed> {
-        let written = self.file.write_all_at(piece, at);
+        let written = match at.checked_add(piece.len() as u64) {
+            Some(_) => self.file.write_all_at(piece, at),
+            None => Err(io::Error::from(io::ErrorKind::InvalidInput)),
+        };
         self.count(written)
     }
 

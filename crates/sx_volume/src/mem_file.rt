@@ -149,6 +149,7 @@ impl MemFile {
         requires { at ≤ length (bytes_in self.old) }
         ensures fails { IsErr result ↔ (FailsNext self.old.tally ⊎ (self.old.room ≤ length piece.now)) }
         ensures done { OnOk result (self.new ≡ after_these (after_look self.old) (changes_by (length (bytes_in self.old)) at piece.now) (length piece.now + 1)) }
+        ensures fits { OnOk result (at + length piece.now < 2 ^ 64) }
         ensures piece { AreBytes piece.now }
         ensures failed { OnErr result (self.new ≡ after_fault self.old) }
         ensures never_falls { self.old.tally.faults ≤ self.new.tally.faults }
