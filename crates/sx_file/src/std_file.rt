@@ -1,4 +1,4 @@
-ghost use Rattle.std.specs.Prelude.{◌≡◌, ◌≤◌, ◌↔◌, None, IsOk, OnErr};
+ghost use Rattle.std.specs.Prelude.{◌≡◌, ◌≤◌, None, IsOk, IfOk, OnOk, OnErr};
 ghost use Rattle.sx_outside.specs.Faults.{Rose};
 
 use crate::{File, FileEnd, FileSpot};
@@ -18,13 +18,17 @@ pub struct StdFile {
 
 impl StdFile {
     /// The file of this handle, which is open for reading and, where it is to be written, for writing.
-    pub fn new(file: fs::File) -> StdFile {
+    pub fn new(file: fs::File) -> StdFile
+        ensures { ⟦<StdFile as File>⟧.faults result ≡ 0 }
+    {
         StdFile { file, faults: 0 }
     }
 
     // What the system answered, where each error counts as a fault.
     fn count<T: Drop>(&mut self, answer: io::Result<T>) -> Result<T, Failed>
-        ensures passed_on { IsOk result ↔ IsOk answer }
+        ensures passed_on { IfOk result (λ value. answer ≡ Ok value) }
+        ensures no_other { IsOk answer → IsOk result }
+        ensures same { OnOk result (self.new.faults ≡ self.old.faults) }
         ensures cause { OnErr result (Rose self.old.faults self.new.faults) }
         ensures never_falls { self.old.faults ≤ self.new.faults }
     {
