@@ -10,6 +10,10 @@ pub after_changes-push : (p : Pending) (changes : List Change) (change : Change)
 after_changes-push p [] change = refl
 after_changes-push p (x ∷ changes) change = after_changes-push (after_change p x) changes change
 
+pub after_changes-append : (p : Pending) (changes more : List Change) → after_changes p (changes ++ more) ≡ after_changes (after_changes p changes) more
+after_changes-append p [] more = refl
+after_changes-append p (x ∷ changes) more = after_changes-append (after_change p x) changes more
+
 got_grown : (changes more : List Change) (k : ℕ) → k < length changes → slice_get (changes ++ more) k ≡ slice_get changes k
 got_grown [] more k lt = absurd (omega (arith, lt))
 got_grown (x ∷ changes) more zero lt = refl

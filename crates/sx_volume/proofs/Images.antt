@@ -1,7 +1,7 @@
 -- How a run of calls goes on, for whoever knows the tests and laws of a volume alone.
-use Rattle.std.proofs.Common.{inl, inr, ⊎_elim, ℕ, ◌≤◌, List, length, refl, ap, subst, arith}
-use Rattle.std.proofs.lemmas.List.{length-take, take_all}
-use Rattle.sx_volume.specs.Images.{Only, Follows, Appends, Puts, Cuts, Elapses}
+use Rattle.std.proofs.Common.{inl, inr, ⊎_elim, ℕ, ◌≤◌, List, length, refl, arith}
+use Rattle.std.proofs.lemmas.List.{take_all}
+use Rattle.sx_volume.specs.Images.{Appends, Puts, Cuts, Elapses}
 
 -- each step may be none at all
 pub appends_same : (end : ℕ) (c : List ℕ) → Appends end c c

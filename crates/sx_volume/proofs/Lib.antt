@@ -1,5 +1,6 @@
-mod Grown
+pub mod Grown
 mod Image
 pub mod Images
-mod Told
-mod Steps
+pub mod Told
+pub mod Steps
+pub mod Recorded

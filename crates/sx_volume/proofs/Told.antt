@@ -1,23 +1,15 @@
 -- What the calls of a volume in memory do to its bytes and its images.
 use Rattle.std.proofs.Common.{◌≡◌, ⊎_elim, ℕ, ◌+◌, ◌≤◌, ◌<◌, IsTrue, List, [], ◌∷◌, ◌++◌, length, take, sym, ◌∙◌, ap, subst, arith, length-append}
-use Rattle.std.specs.Prelude.{Some, map, slice_set}
-use Rattle.std.proofs.lemmas.List.{length-set, length-take, map-append}
+use Rattle.std.specs.Prelude.{Some, slice_set}
+use Rattle.std.proofs.lemmas.List.{length-set, length-take}
 use Rattle.sx_volume.specs.Change.{AreBytes, Change, Appended, Put, Cut, Synced, Pending, settled, after_change, IsImage}
 use Rattle.sx_volume.specs.Held.{held_piece}
 use Rattle.sx_volume.specs.Images.{Only, IsWithin, Follows, Appends, Puts, Cuts, NoSync, Syncs, Elapses}
-use Rattle.sx_volume.specs.Kept.{change_of}
 use Rattle.sx_volume.specs.Medium.{Medium, pending, bytes_of, is_calm, moment_of, MayLeave, MayHaveLeft, HadSync, after_append, after_put, after_cut, after_sync, after_failure}
 use Rattle.sx_volume.specs.Replay.{IsSound, pending_after, pending_is_sound, only_now, WasImage, SyncAt}
-use Rattle.sx_volume.specs.declared.mem_volume.Call.{Call}
 use Rattle.sx_volume.proofs.Grown.{after_changes-push, since_change, elapses_grown, no_sync_grown, sync_grown}
 use Rattle.sx_volume.proofs.Images.{appends_same, puts_same, cuts_same}
 use Rattle.sx_volume.proofs.Steps.{appended_image, put_image, cut_image, settled_image, synced_image}
-
--- the record of the calls and what is kept grow together
-pub replayed_push : (first : List ℕ) (calls more : List Call) (call : Call) (old new : Pending) → old ≡ pending_after first (map change_of calls) → new ≡ after_change old (change_of call) → more ≡ calls ++ call ∷ [] → new ≡ pending_after first (map change_of more)
-replayed_push first calls more call old new replayed is pushed =
-    is ∙ ap (λ (p : Pending). after_change p (change_of call)) replayed ∙ sym (after_changes-push (settled first) (map change_of calls) (change_of call))
-    ∙ ap (pending_after first) (sym (map-append change_of calls (call ∷ [])) ∙ ap (map change_of) (sym pushed))
 
 module _ (old new : Medium) where
   module _ (is : new ≡ after_failure old) where

@@ -1,5 +1,12 @@
 -- The piece that a volume holds for its next append.
 use Rattle.std.specs.Prelude.{◌≡◌, ◌≤◌, ◌+◌, ◌-◌, ℕ, List, [], Option, None, Some, length, take, drop}
+use Rattle.std.specs.Arc.{arc_value}
+use Rattle.sx_volume.specs.declared.held_piece.HeldPiece.{HeldPiece}
+
+-- the place and the bytes of the held piece
+abbrev pub place_and_bytes : Option HeldPiece → Option (ℕ × List ℕ)
+place_and_bytes None = None
+place_and_bytes (Some held) = Some (held.at, (arc_value held.piece).items)
 
 -- a piece is held for this place
 abbrev pub IsHeldFor : Option (ℕ × List ℕ) → ℕ → Type 0

@@ -6,4 +6,5 @@ pub mod Images
 pub mod Kept
 pub mod Medium
 pub mod Replay
+pub mod Stored
 pub mod Tally

@@ -36,7 +36,7 @@ pub record IsSound (p : Pending) : Type 0 where
   pub least : p.least ≤ length p.bytes
   pub greatest : length p.bytes ≤ p.greatest
 
-sound_change : (p : Pending) (change : Change) → IsSound p → IsSound (after_change p change)
+pub sound_change : (p : Pending) (change : Change) → IsSound p → IsSound (after_change p change)
 sound_change p (Appended piece) sound = record {
   least = omega (arith, sound.least, length-append p.bytes piece);
   greatest = omega (arith, length-append p.bytes piece);

@@ -1,4 +1,4 @@
-ghost use Rattle.std.specs.Prelude.{◌≡◌, ◌+◌, ◌<◌, ◌≤◌, ◌^◌, IfOk, OnOk, length, vec_len, vec_capacity};
+ghost use Rattle.std.specs.Prelude.{◌≡◌, ◌+◌, ◌<◌, ◌≤◌, ◌^◌, IfOk, length, vec_len, vec_capacity};
 ghost use Rattle.sx_volume.specs.Change.{Appended, Put, Cut, Synced, AreBytes, after_change, image_of, settled, with_byte_at};
 ghost use Rattle.sx_volume.specs.Content.{pending_in};
 
@@ -32,21 +32,12 @@ impl Content {
         }
     }
 
-    // Makes the room for so many bytes in all.
-    pub fn reserve_to(&mut self, end: usize) -> Result<(), AllocError>
-        ensures ok { OnOk result (end ≤ vec_capacity self.new.bytes) }
-        ensures same { pending_in self.new ≡ pending_in self.old }
-        ensures bytes { vec_capacity self.old.bytes ≤ vec_capacity self.new.bytes }
-        ensures places { self.new.places ≡ self.old.places }
-    {
-        self.bytes.reserve(end.saturating_sub(self.bytes.len()))
-    }
-
     // Appends a piece for which there is room.
     pub fn append(&mut self, piece: &[u8])
         requires { vec_len self.old.bytes + length piece.now ≤ vec_capacity self.old.bytes }
         ensures appended { pending_in self.new ≡ after_change (pending_in self.old) (Appended piece.now) }
         ensures bytes { vec_capacity self.old.bytes ≤ vec_capacity self.new.bytes }
+        ensures longer { vec_len self.new.bytes ≡ vec_len self.old.bytes + length piece.now }
         ensures places { self.new.places ≡ self.old.places }
         ensures piece { AreBytes piece.now }
     {

@@ -36,6 +36,16 @@ impl Counter {
         }
     }
 
+    // Counts one call more that failed.
+    pub fn fail(&mut self) -> Failed
+        ensures failed { self.new ≡ one_more_failed self.old }
+        ensures never_falls { self.old.faults ≤ self.new.faults }
+    {
+        self.made = self.made.saturating_add(1);
+        self.faults = self.faults.saturating_add(1);
+        Failed
+    }
+
     // Counts one call more, which fails where its number is listed.
     pub fn count(&mut self) -> Result<(), Failed>
         ensures fails { IsErr result ↔ FailsNext self.old }
@@ -43,12 +53,10 @@ impl Counter {
         ensures err { OnErr result (self.new ≡ one_more_failed self.old) }
         ensures never_falls { self.old.faults ≤ self.new.faults }
     {
-        let fails = is_listed(&self.failing, self.made);
-        self.made = self.made.saturating_add(1);
-        if fails {
-            self.faults = self.faults.saturating_add(1);
-            return Err(Failed);
+        if is_listed(&self.failing, self.made) {
+            return Err(self.fail());
         }
+        self.made = self.made.saturating_add(1);
         Ok(())
     }
 }

@@ -11,14 +11,18 @@
 mod content;
 mod counter;
 mod end;
+mod held_piece;
 mod mem_end;
+mod mem_file;
 mod mem_spot;
 mod mem_volume;
 mod spot;
 mod volume;
 
 pub use end::ReadEnd;
+pub use held_piece::{HeldPiece, range_of};
 pub use mem_end::MemEnd;
+pub use mem_file::MemFile;
 pub use mem_spot::MemSpot;
 pub use mem_volume::MemVolume;
 pub use spot::Spot;

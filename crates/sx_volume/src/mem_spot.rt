@@ -21,8 +21,8 @@ impl Model for MemSpot {
 }
 
 impl MemSpot {
-    // Copies the bytes.
-    pub(crate) fn new(alloc: Global, bytes: &[u8]) -> Result<MemSpot, AllocError>
+    /// A spot with a copy of these bytes. Errors: `AllocError` where memory runs out.
+    pub fn new(alloc: Global, bytes: &[u8]) -> Result<MemSpot, AllocError>
         requires { length bytes.now < 2 ^ 32 }
         ensures { IfOk result (λ spot. spot ≡ bytes.now) }
     {

@@ -1,49 +1,29 @@
-ghost use Rattle.std.specs.Prelude.{◌≡◌, ◌+◌, ◌-◌, ◌++◌, ◌<◌, ◌≤◌, ◌↔◌, ◌⊎◌, [], ◌∷◌, List, Option, Some, None, ℕ, IsTrue, IsSome, length, take, drop, slice_set, IsErr, OnOk, OnErr, IfOk, IfSome, MatchOption};
+ghost use Rattle.std.specs.Prelude.{◌≡◌, ◌+◌, ◌-◌, ◌++◌, ◌<◌, ◌≤◌, ◌↔◌, ◌⊎◌, [], ◌∷◌, List, Option, Some, None, ℕ, IsTrue, IsSome, length, take, drop, slice_set, IsErr, OnOk, OnErr, IfOk, IfSome};
 ghost use Rattle.std.specs.Arc.{arc_value};
 ghost use Rattle.sx_outside.specs.Faults.{Rose};
 ghost use Rattle.sx_volume.specs.Change.{AreBytes, image_of};
 ghost use Rattle.sx_volume.specs.Counts.{plus};
 ghost use Rattle.sx_volume.specs.Held.{IsHeldFor, LiesInHeld, held_piece, held_range};
 ghost use Rattle.sx_volume.specs.Images.{Only, IsWithin, Follows, Appends, Puts, Cuts, Elapses, NoSync, Syncs};
-ghost use Rattle.sx_volume.specs.Kept.{place_and_bytes};
 ghost use Rattle.sx_volume.specs.Medium.{Medium, pending, bytes_of, is_calm, moment_of, MayLeave, MayHaveLeft, HadSync, after_failure, after_read, after_failed_read, after_append, after_put, after_cut, after_sync};
 ghost use Rattle.sx_volume.specs.Replay.{counts_now, only_now, synced_by_now, told_length, as_read};
 ghost use Rattle.sx_volume.specs.Tally.{FailsNext};
 
-use crate::content::Content;
-use crate::counter::Counter;
-use crate::{MemEnd, MemSpot, Volume};
+use crate::held_piece::{HeldPiece, range_of};
+use crate::{MemEnd, MemFile, MemSpot, Volume};
 use std::alloc::{AllocError, Global};
 use std::marker::Model;
 use std::sync::Arc;
 use sx_outside::Failed;
 
-// A call that changed the volume or synced it.
-#[derive(Drop)]
-enum Call {
-    Append(Arc<Vec<u8>>),
-    PutByte { at: usize, byte: u8 },
-    Cut { len: usize },
-    Sync,
-}
-
-#[derive(Drop)]
-struct HeldPiece {
-    at: u64,
-    piece: Arc<Vec<u8>>,
-}
-
 /// A volume in memory, which tells its bytes and fails where it is told to.
 ///
-/// It keeps a record of its calls, from which all that a crash may leave at each moment is known.
+/// It stands on a file in memory, whose record of calls tells all that a crash may leave at each moment.
 #[derive(Drop)]
 pub struct MemVolume {
-    first: Vec<u8>,
-    calls: Vec<Call>,
-    content: Content,
+    file: MemFile,
     held: Option<HeldPiece>,
     spare: usize,
-    tally: Counter,
     bytes_read: u64,
 }
 
@@ -52,11 +32,11 @@ impl Model for MemVolume {
 
     ghost Value = { Medium };
 
-    ghost use Rattle.sx_volume.specs.Kept.{medium_in, IsKept};
+    ghost use Rattle.sx_volume.specs.Kept.{medium_in, HasRoom};
 
     ghost view = { medium_in };
 
-    ghost invariant = { IsKept };
+    ghost invariant = { HasRoom };
 }
 
 impl MemVolume {
@@ -76,12 +56,9 @@ impl MemVolume {
         ensures kept { IfOk result (λ volume. Only bytes.items (MayLeave volume)) }
     {
         Ok(MemVolume {
-            first: bytes.to_vec(alloc)?,
-            calls: Vec::new(alloc),
-            content: Content::new(alloc, bytes),
+            file: MemFile::new(alloc, bytes, failing)?,
             held: None,
             spare: 0,
-            tally: Counter::new(failing),
             bytes_read: 0,
         })
     }
@@ -90,7 +67,7 @@ impl MemVolume {
     pub fn as_slice(&self) -> &[u8]
         ensures { result.now ≡ bytes_of self.now }
     {
-        &self.content.bytes
+        self.file.as_slice()
     }
 
     /// One of the images that a crash may leave now. Behind the least length since the last sync that succeeded it has
@@ -101,7 +78,7 @@ impl MemVolume {
         ensures value { IfOk result (λ image. image.items ≡ image_of (pending self.now) tail.now gate) }
         ensures image { IfOk result (λ image. MayLeave self.now image.items) }
     {
-        self.content.image(alloc, tail, gate)
+        self.file.image(alloc, tail, gate)
     }
 
     // What `append` does.
@@ -114,12 +91,11 @@ impl MemVolume {
         ensures failed { OnErr result (self.new ≡ after_failure self.old) }
         ensures never_falls { self.old.tally.faults ≤ self.new.tally.faults }
     {
-        self.tally.count()?;
-        let Some(HeldPiece { at: _, piece }) = self.held.take() else {
+        let Some(held) = &self.held else {
             unreachable!("the caller holds a piece");
         };
-        self.content.append(piece.as_slice());
-        self.calls.push_reserved(Call::Append(piece));
+        self.file.append(held.piece.as_slice())?;
+        self.held = None;
         self.spare -= 1;
         Ok(())
     }
@@ -133,9 +109,7 @@ impl MemVolume {
         ensures failed { OnErr result (self.new ≡ after_failure self.old) }
         ensures never_falls { self.old.tally.faults ≤ self.new.tally.faults }
     {
-        self.tally.count()?;
-        self.content.put(at, byte);
-        self.calls.push_reserved(Call::PutByte { at, byte });
+        self.file.put(at, byte)?;
         self.spare -= 1;
         Ok(())
     }
@@ -149,9 +123,7 @@ impl MemVolume {
         ensures failed { OnErr result (self.new ≡ after_failure self.old) }
         ensures never_falls { self.old.tally.faults ≤ self.new.tally.faults }
     {
-        self.tally.count()?;
-        self.content.cut(len);
-        self.calls.push_reserved(Call::Cut { len });
+        self.file.cut(len)?;
         self.spare -= 1;
         Ok(())
     }
@@ -164,28 +136,10 @@ impl MemVolume {
         ensures failed { OnErr result (self.new ≡ after_failure self.old) }
         ensures never_falls { self.old.tally.faults ≤ self.new.tally.faults }
     {
-        self.tally.count()?;
-        self.content.sync();
-        self.calls.push_reserved(Call::Sync);
+        self.file.sync()?;
         self.spare -= 1;
         Ok(())
     }
-}
-
-// The range of the held piece, where it lies there.
-fn range_of(held: &Option<HeldPiece>, at: u64, count: u32) -> Option<&[u8]>
-    ensures { MatchOption result
-        (LiesInHeld (place_and_bytes held.now) at count → ⊥)
-        (λ range. LiesInHeld (place_and_bytes held.now) at count
-        × (range.now ≡ held_range (place_and_bytes held.now) at count)) }
-{
-    let held = held.as_ref()?;
-    let start = at.checked_sub(held.at)? as usize;
-    let piece = held.piece.as_slice();
-    if start > piece.len() || count as usize > piece.len() - start {
-        return None;
-    }
-    Some(&piece[start..start + count as usize])
 }
 
 impl Volume for MemVolume {
@@ -226,7 +180,7 @@ impl Volume for MemVolume {
     ghost reads = { λ volume. as_read volume.first volume.changes };
 
     fn len(&self) -> u64 {
-        self.content.bytes.len() as u64
+        self.file.as_slice().len() as u64
     }
 
     fn read_at(&mut self, at: u64, room: &mut [u8]) -> Result<(), Failed>
@@ -250,10 +204,7 @@ impl Volume for MemVolume {
         ensures failed { OnErr result (self.new ≡ after_failed_read self.old (length room.old)) }
     {
         self.bytes_read = self.bytes_read.saturating_add(room.len() as u64);
-        self.tally.count()?;
-        let at = at as usize;
-        room.copy_from_slice(&self.content.bytes[at..at + room.len()]);
-        Ok(())
+        self.file.read(at as usize, room)
     }
 
     fn hold(&mut self, _alloc: Global, at: u64, piece: Arc<Vec<u8>>) -> Result<(), AllocError>
@@ -273,8 +224,8 @@ impl Volume for MemVolume {
         ensures holds { OnOk result (self.new ≡ record self.old { held = Some (at, (arc_value piece).items) }) }
         ensures refused { OnErr result (self.new ≡ self.old) }
     {
-        let end = (at as usize).checked_add(piece.len()).ok_or(AllocError)?;
-        self.content.reserve_to(end)?;
+        let room = piece.len().checked_add(self.spare).ok_or(AllocError)?;
+        self.file.reserve(room)?;
         self.held = Some(HeldPiece { at, piece });
         Ok(())
     }
@@ -298,8 +249,9 @@ impl Volume for MemVolume {
     {
         let calls = calls as usize;
         if self.spare < calls {
-            self.calls.reserve(calls)?;
-            self.content.places.reserve(calls)?;
+            let held = self.held.as_ref().map_or(0, |held| held.piece.len());
+            self.file
+                .reserve(held.checked_add(calls).ok_or(AllocError)?)?;
             self.spare = calls;
         }
         Ok(())
@@ -403,7 +355,7 @@ impl Volume for MemVolume {
     fn spot(&self, alloc: Global, at: u64, count: u32) -> Result<MemSpot, AllocError> {
         let range = match range_of(&self.held, at, count) {
             Some(range) => range,
-            None => &self.content.bytes[at as usize..at as usize + count as usize],
+            None => &self.file.as_slice()[at as usize..at as usize + count as usize],
         };
         MemSpot::new(alloc, range)
     }

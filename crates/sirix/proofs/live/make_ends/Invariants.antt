@@ -1,8 +1,0 @@
-use Rattle.std.proofs.Common.{vec_len, ◌-◌, ◌≤◌}
-use Rattle.sirix.proofs.live.make_ends.Given as goal
-
-abbrev pub decreases-loop-ends : goal.decreases-loop-ends
-decreases-loop-ends l = 32 - vec_len l.ends
-
-abbrev pub invariant-loop-ends : goal.invariant-loop-ends
-invariant-loop-ends l = vec_len l.ends ≤ 32
