@@ -1,5 +1,5 @@
 -- The one spelling of a revision's head.
-use Rattle.std.specs.Prelude.{ℕ, ◌+◌, List, [], ◌∷◌, ◌++◌, Option, None, Some, take, if◌then◌else◌}
+use Rattle.std.specs.Prelude.{ℕ, ◌^◌, ◌<◌, FitsSigned, List, [], ◌∷◌, ◌++◌, Option, None, Some, take, if◌then◌else◌}
 use Rattle.std.specs.Int.{to_be_bytes, cast_unsigned, cast_signed, w32, w64}
 use Rattle.std.specs.Str.{bytes_eq}
 use Rattle.sx_bytes.specs.Front.{◌>>=◌, front_number, front_piece}
@@ -46,3 +46,16 @@ front_root bytes = do
     },
     body.1,
   ) else None
+
+-- its numbers fit their fields
+pub record IsRoot (root : RevisionRoot) : Type 0 where
+  pub revision : root.revision < 2 ^ 32
+  pub time : FitsSigned w64 root.time
+  pub first_frame : root.first_frame < 2 ^ 32
+  pub frames : root.frames < 2 ^ 32
+  pub node_root : root.node_root < 2 ^ 32
+  pub path_root : root.path_root < 2 ^ 32
+  pub next : root.next < 2 ^ 32
+  pub nodes : root.nodes < 2 ^ 32
+  pub paths : root.paths < 2 ^ 32
+  pub body : root.body < 2 ^ 32

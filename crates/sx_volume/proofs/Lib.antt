@@ -1,3 +1,4 @@
+mod Fused
 mod Grown
 mod Image
 pub mod Images
