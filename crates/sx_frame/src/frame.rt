@@ -1,6 +1,7 @@
-ghost use Rattle.std.specs.Prelude.{◌≡◌, ◌+◌, ◌<◌, ◌≤◌, ◌^◌, ◌++◌, ◌∷◌, length, IfErr, IfOk, OnErr, OnOk, vec_capacity, vec_len};
+ghost use Rattle.std.specs.Prelude.{◌≡◌, ◌+◌, ◌<◌, ◌≤◌, ◌^◌, ◌++◌, ◌∷◌, length, IfErr, IfOk, MatchResult, OnErr, OnOk, vec_capacity, vec_len};
 ghost use Rattle.std.specs.Int.{to_be_bytes, w32};
 ghost use Rattle.sha2.specs.Sha256.{sha256};
+ghost use Rattle.sx_frame.specs.declared.frame.Frame.{Frame};
 ghost use Rattle.sx_frame.specs.Frame.{Explains, body_length, frame_bytes};
 
 use crate::FrameFault;
@@ -44,6 +45,7 @@ pub fn open(alloc: Global, bytes: &[u8], digest: &[u8; 32], place: u64) -> Resul
     requires { 5 ≤ length bytes.now }
     ensures digest { OnOk result (sha256 bytes.now ≡ digest.now) }
     ensures frame { IfOk result (λ frame. bytes.now ≡ frame_bytes frame) }
+    ensures undoes { (frame : Frame) → length frame.body < 2 ^ 28 → bytes.now ≡ frame_bytes frame → sha256 bytes.now ≡ digest.now → MatchResult result (λ opened. opened ≡ frame) (λ fault. fault ≡ FrameFault.OutOfMemory) }
     ensures fault { IfErr result (Explains bytes.now digest.now place) }
 {
     let found = Sha256::digest(bytes);

@@ -1,9 +1,10 @@
-ghost use Rattle.std.specs.Prelude.{◌≡◌, ◌↔◌, ◌≤◌, ◌++◌, IsSome, IfSome, IfNone, IsTrue, OnErr, OnOk, length, take, FitsSigned};
+ghost use Rattle.std.specs.Prelude.{List, ℕ, Some, ◌≡◌, ◌↔◌, ◌≤◌, ◌++◌, IsSome, IfSome, IfNone, IsTrue, OnErr, OnOk, length, take, FitsSigned};
 ghost use Rattle.std.specs.Int.{cast_unsigned, to_be_bytes, w64};
 ghost use Rattle.std.specs.Option.{option_map};
 ghost use Rattle.std.specs.Str.{bytes_eq};
 ghost use Rattle.sx_bytes.specs.Front.{Gives, front_number};
-ghost use Rattle.sx_root.specs.Root.{front_root, mark, root_bytes};
+ghost use Rattle.sx_root.specs.declared.root.RevisionRoot.{RevisionRoot};
+ghost use Rattle.sx_root.specs.Root.{IsRoot, front_root, mark, root_bytes};
 
 use std::alloc::AllocError;
 use sx_bytes::{Fields, FieldsOut};
@@ -75,6 +76,7 @@ impl RevisionRoot {
         ensures some { IsSome result ↔ ((48 ≤ length fields.old) × (take 4 fields.old ≡ mark)) }
         ensures written { IfSome result (λ root. fields.old ≡ root_bytes root ++ fields.new) }
         ensures read { Gives result fields.new (front_root fields.old) }
+        ensures again { (root : RevisionRoot) (rest : List ℕ) → IsRoot root → fields.old ≡ root_bytes root ++ rest → (result ≡ Some root) × (fields.new ≡ rest) }
         ensures none { IfNone result (fields.new ≡ fields.old) }
     {
         let mut ahead = Fields::new(fields.rest());
