@@ -1,9 +1,8 @@
 -- The birth part of a volume, which tells what it was made with, and which volumes are born.
-use Rattle.std.specs.Prelude.{ℕ, ◌≡◌, ◌≢◌, ◌==◌, ◌+◌, ◌-◌, ◌<◌, ◌≤◌, ◌⊎◌, ◌&&◌, ◌||◌, Bool, not, nat_lt, List, [], ◌∷◌, ◌++◌, length, take, drop, replicate, slice_get, slice_index, Some, IsUtf8}
+use Rattle.std.specs.Prelude.{ℕ, ◌≡◌, ◌≢◌, ◌==◌, ◌-◌, ◌≤◌, ◌⊎◌, ◌&&◌, ◌||◌, Bool, not, nat_lt, List, [], ◌∷◌, ◌++◌, length, take, drop, replicate, slice_get, Some, IsUtf8}
 use Rattle.std.specs.Str.{bytes_eq, is_utf8}
 use Rattle.sha2.specs.Sha256.{sha256}
 use Rattle.sx_frame.specs.Violation.{Violation, tell}
-use Rattle.sx_layout.specs.Rule.{first_broken}
 
 pub record Birth : Type 0 where
   -- how many fragments a leaf has at most
@@ -29,17 +28,52 @@ pub record IsBirth (birth : Birth) : Type 0 where
 abbrev pub magic : List ℕ
 magic = 83 ∷ 88 ∷ 83 ∷ 78 ∷ 65 ∷ 80 ∷ 48 ∷ 49 ∷ []
 
--- the length in one byte, the name, and zeros up to 64 bytes
-abbrev pub name_bytes : List ℕ → List ℕ
-name_bytes name = length name ∷ (name ++ replicate (64 - length name) 0)
+-- the fields of a birth part
+pub record BirthFields : Type 0 where
+  pub format : ℕ
+  pub window : ℕ
+  -- of each name its length, and 64 bytes
+  pub from_length : ℕ
+  pub from : List ℕ
+  pub to_length : ℕ
+  pub to : List ℕ
+  pub digest : List ℕ
 
--- the magic, the format 1, the window and both names: places 1 to 140
-abbrev pub birth_fields : Birth → List ℕ
-birth_fields birth = magic ++ (1 ∷ birth.window ∷ (name_bytes birth.from ++ name_bytes birth.to))
+pub record AreFields (fields : BirthFields) : Type 0 where
+  pub from : length fields.from ≡ 64
+  pub to : length fields.to ≡ 64
+  pub digest : length fields.digest ≡ 32
 
--- these with their digest: places 1 to 172, behind the birth gate
+-- magic (8 bytes), format (1), window (1), and both names (65 each): places 1 to 140
+abbrev pub fields_bytes : BirthFields → List ℕ
+fields_bytes fields = magic ++ (fields.format ∷ fields.window ∷ fields.from_length ∷ (fields.from ++ fields.to_length ∷ fields.to))
+
+-- these with the digest: places 1 to 172, behind the birth gate
+abbrev pub part_bytes : BirthFields → List ℕ
+part_bytes fields = fields_bytes fields ++ fields.digest
+
+-- the name, and zeros up to 64 bytes
+abbrev pub padded : List ℕ → List ℕ
+padded name = name ++ replicate (64 - length name) 0
+
+-- the fields of this birth, in the format 1, under the digest
+abbrev pub undigested : Birth → List ℕ → BirthFields
+undigested birth digest = record {
+  format = 1;
+  window = birth.window;
+  from_length = length birth.from;
+  from = padded birth.from;
+  to_length = length birth.to;
+  to = padded birth.to;
+  digest = digest;
+}
+
+abbrev pub fields_of : Birth → BirthFields
+fields_of birth = undigested birth (sha256 (fields_bytes (undigested birth [])))
+
+-- the birth part that is written
 unfoldable pub birth_part : Birth → List ℕ
-birth_part birth = birth_fields birth ++ sha256 (birth_fields birth)
+birth_part birth = part_bytes (fields_of birth)
 
 -- ---- which volumes are born
 
@@ -65,28 +99,25 @@ pub record IsNotOurs (image : List ℕ) (first : ℕ) : Type 0 where
 
 -- ---- the rules that the birth part of a born volume keeps
 
--- the name whose length stands at this place of a birth part
-abbrev pub name_at : ℕ → List ℕ → List ℕ
-name_at place part = take (slice_index part place) (take 64 (drop (place + 1) part))
-
 -- a name of 1 to 64 bytes in UTF-8, with zeros behind it
-abbrev pub is_name_at : ℕ → List ℕ → Bool
-is_name_at place part =
-    not (nat_lt (slice_index part place) 1) && not (nat_lt 64 (slice_index part place)) && is_utf8 (name_at place part)
-    && bytes_eq (drop (slice_index part place) (take 64 (drop (place + 1) part))) (replicate (64 - slice_index part place) 0)
+abbrev pub is_name : ℕ → List ℕ → Bool
+is_name count bytes = not (nat_lt count 1) && not (nat_lt 64 count) && is_utf8 (take count bytes) && bytes_eq (drop count bytes) (replicate (64 - count) 0)
 
-abbrev pub are_names : List ℕ → Bool
-are_names part = is_name_at 10 part && is_name_at 75 part && not (bytes_eq (name_at 10 part) (name_at 75 part))
+-- two names that differ
+abbrev pub are_names : BirthFields → Bool
+are_names fields =
+    is_name fields.from_length fields.from && is_name fields.to_length fields.to
+    && not (bytes_eq (take fields.from_length fields.from) (take fields.to_length fields.to))
 
--- the rules 1 to 4, of bytes that stand at places 1 to 172
-abbrev pub birth_rules : List ℕ → List (Bool × Violation)
-birth_rules part =
-    (not (bytes_eq (drop 140 part) (sha256 (take 140 part))), record { rule = 1; kept = drop 140 part; found = sha256 (take 140 part) })
-    ∷ (not (slice_index part 8 == 1), tell 2 1 (slice_index part 8))
-    ∷ (nat_lt (slice_index part 9) 1 || nat_lt 8 (slice_index part 9), tell 3 8 (slice_index part 9))
-    ∷ (not (are_names part), tell 4 0 (slice_index part 10))
+-- the rules 1 to 4
+abbrev pub birth_rules : BirthFields → List (Bool × Violation)
+birth_rules fields =
+    (not (bytes_eq fields.digest (sha256 (fields_bytes fields))), record { rule = 1; kept = fields.digest; found = sha256 (fields_bytes fields) })
+    ∷ (not (fields.format == 1), tell 2 1 fields.format)
+    ∷ (nat_lt fields.window 1 || nat_lt 8 fields.window, tell 3 8 fields.window)
+    ∷ (not (are_names fields), tell 4 0 fields.from_length)
     ∷ []
 
--- what these bytes tell, where they keep the rules
-abbrev pub birth_at : List ℕ → Birth
-birth_at part = record { window = slice_index part 9; from = name_at 10 part; to = name_at 75 part }
+-- what the fields tell, where they keep the rules
+abbrev pub told_birth : BirthFields → Birth
+told_birth fields = record { window = fields.window; from = take fields.from_length fields.from; to = take fields.to_length fields.to }

@@ -1,8 +1,8 @@
 -- What the bytes of a volume with a birth stand for.
-use Rattle.std.specs.Prelude.{ℕ, ◌≡◌, ◌≢◌, ◌+◌, ◌⊎◌, List, [], ◌∷◌, ◌++◌, take, drop, Option, None, Some}
+use Rattle.std.specs.Prelude.{ℕ, ◌≡◌, ◌≢◌, ◌+◌, ◌⊎◌, List, [], ◌∷◌, ◌++◌, Option, None, Some}
 use Rattle.sx_bytes.specs.declared.damage.Damage.{Damage}
 use Rattle.sx_frame.specs.Violation.{Violation, damage_at}
-use Rattle.sx_layout.specs.Birth.{Birth, IsBirth, IsUnborn, IsBorn, IsNotOurs, birth_part, birth_rules}
+use Rattle.sx_layout.specs.Birth.{AreFields, Birth, BirthFields, IsBirth, IsBorn, IsNotOurs, IsUnborn, birth_part, birth_rules, part_bytes}
 use Rattle.sx_layout.specs.FrameGroup.{FrameGroup, first_root, last_root, gate_behind, behind_gates}
 use Rattle.sx_layout.specs.Rule.{first_broken}
 use Rattle.sx_layout.specs.Rules.{Follow, KeepCounts, group_violation}
@@ -31,8 +31,12 @@ StandsForNone image = IsUnborn image ⊎ ((birth : Birth) × HasLog image birth 
 -- the birth part breaks a rule
 pub record IsBirthDamaged (image : List ℕ) (damage : Damage) : Type 0 where
   pub born : IsBorn image
+  pub fields : BirthFields
+  pub are : AreFields fields
+  pub rest : List ℕ
+  pub image_is : image ≡ 1 ∷ (part_bytes fields ++ rest)
   pub violation : Violation
-  pub breaks : first_broken (birth_rules (take 172 (drop 1 image))) ≡ Some violation
+  pub breaks : first_broken (birth_rules fields) ≡ Some violation
   pub damage_is : damage ≡ damage_at 1 violation
 
 -- The image has a birth part and groups that keep the rules, and then an open gate, behind which a rule is broken.
