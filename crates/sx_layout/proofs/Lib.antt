@@ -5,3 +5,4 @@ pub mod Tables
 pub mod Broken
 pub mod FrameGroups
 pub mod Births
+pub mod BornReadings
