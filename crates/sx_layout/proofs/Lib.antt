@@ -6,3 +6,4 @@ pub mod Broken
 pub mod FrameGroups
 pub mod Births
 pub mod BornReadings
+pub mod BornRows
