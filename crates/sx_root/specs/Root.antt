@@ -1,5 +1,5 @@
 -- The one spelling of a revision's head.
-use Rattle.std.specs.Prelude.{ℕ, ◌^◌, ◌<◌, FitsSigned, List, [], ◌∷◌, ◌++◌, Option, None, Some, take, if◌then◌else◌}
+use Rattle.std.specs.Prelude.{ℕ, ◌^◌, ◌<◌, FitsSigned, List, [], ◌∷◌, ◌++◌, Option, None, Some, take, Bool, true, false}
 use Rattle.std.specs.Int.{to_be_bytes, cast_unsigned, cast_signed, w32, w64}
 use Rattle.std.specs.Str.{bytes_eq}
 use Rattle.sx_bytes.specs.Front.{◌>>=◌, front_number, front_piece}
@@ -17,11 +17,11 @@ root_bytes root =
     ++ (to_be_bytes w32 root.frames ++ (to_be_bytes w32 root.node_root ++ (to_be_bytes w32 root.path_root ++ (to_be_bytes w32 root.next
     ++ (to_be_bytes w32 root.nodes ++ (to_be_bytes w32 root.paths ++ to_be_bytes w32 root.body)))))))))
 
--- the head at the front of bytes, and the bytes behind it; None where there is none
-unfoldable pub front_root : List ℕ → Option (RevisionRoot × List ℕ)
-front_root bytes = do
-  given ← front_piece 4 bytes
-  revision ← front_number w32 given.1
+-- the fields behind the mark, where it is one
+abbrev pub front_fields : Bool → List ℕ → Option (RevisionRoot × List ℕ)
+front_fields false bytes = None
+front_fields true bytes = do
+  revision ← front_number w32 bytes
   time ← front_number w64 revision.1
   first_frame ← front_number w32 time.1
   frames ← front_number w32 first_frame.1
@@ -31,7 +31,7 @@ front_root bytes = do
   nodes ← front_number w32 next.1
   paths ← front_number w32 nodes.1
   body ← front_number w32 paths.1
-  if bytes_eq given.0 mark then Some (
+  Some (
     record {
       revision = revision.0;
       time = cast_signed w64 time.0;
@@ -45,7 +45,13 @@ front_root bytes = do
       body = body.0;
     },
     body.1,
-  ) else None
+  )
+
+-- the head at the front of bytes, and the bytes behind it; None where there is none
+unfoldable pub front_root : List ℕ → Option (RevisionRoot × List ℕ)
+front_root bytes = do
+  given ← front_piece 4 bytes
+  front_fields (bytes_eq given.0 mark) given.1
 
 -- its numbers fit their fields
 pub record IsRoot (root : RevisionRoot) : Type 0 where

@@ -94,6 +94,9 @@ fn read_fields(fields: &mut Fields) -> Option<RevisionRoot>
     ensures read { Gives result fields.new (front_root fields.old) }
 {
     let given = fields.bytes(4)?;
+    if !is_mark(given) {
+        return None;
+    }
     let revision = fields.u32()?;
     let time = read_time(fields)?;
     let first_frame = fields.u32()?;
@@ -104,9 +107,6 @@ fn read_fields(fields: &mut Fields) -> Option<RevisionRoot>
     let nodes = fields.u32()?;
     let paths = fields.u32()?;
     let body = fields.u32()?;
-    if !is_mark(given) {
-        return None;
-    }
     Some(RevisionRoot {
         revision,
         time,
