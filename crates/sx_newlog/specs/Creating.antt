@@ -1,6 +1,6 @@
 -- What making a volume leaves.
 use Rattle.std.specs.Prelude.{ℕ, ◌≡◌, ◌≢◌, ◌<◌, ◌≤◌, ◌⊎◌, List, [], ◌∷◌, ◌++◌, length, Option, Some, IfSome, Result, Ok, Err, slice_get}
-use Rattle.sx_layout.specs.Birth.{Birth, IsBorn, IsNotOurs, IsUnborn, birth_part}
+use Rattle.sx_layout.specs.Birth.{Birth, IsBirth, IsBorn, IsNotOurs, IsUnborn, birth_part}
 use Rattle.sx_layout.specs.Born.{StandsForNone}
 use Rattle.sx_newlog.specs.Opening.{IsOther}
 use Rattle.sx_newlog.specs.declared.fault.LogFault.{LogFault}
@@ -48,3 +48,11 @@ pub record IsUnsynced (start : ℕ) (before : List ℕ → Type 0) (was : ℕ �
 -- the birth gate is closed
 abbrev pub IsShut : Option (List ℕ) → Type 0
 IsShut bytes = IfSome bytes (λ all. slice_get all 0 ≡ Some 0)
+
+-- where the bytes were told, the birth gate is closed in each of these images
+abbrev pub StayShut : Option (List ℕ) → (List ℕ → Type 0) → Type 0
+StayShut bytes images = IfSome bytes (λ _. (c : List ℕ) → images c → slice_get c 0 ≡ Some 0)
+
+-- the bytes are a closed birth gate and a birth part, with the closed gate of the first group
+abbrev pub HasPart : List ℕ → Type 0
+HasPart all = (birth : Birth) × IsBirth birth × (all ≡ 0 ∷ (birth_part birth ++ 0 ∷ []))
