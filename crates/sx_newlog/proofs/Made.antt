@@ -1,15 +1,19 @@
 -- What a crash leaves while a volume is made: it stands for no commits.
 use Rattle.std.specs.Prelude.{IsSome}
-use Rattle.std.proofs.Common.{false, true, ◌≡◌, ◌≢◌, ◌∙◌, ℕ, zero, suc, ◌+◌, ◌<◌, ◌≤◌, ◌⊎◌, inl, inr, ⊎_elim, List, [], ◌∷◌, ◌++◌, length, take, drop, slice_get, slice_set, Option, None, Some, IfSome, refl, ap, sym, subst, arith, length-append}
+use Rattle.std.proofs.Common.{false, true, ◌≡◌, ◌≢◌, ◌∙◌, ℕ, zero, suc, ◌+◌, ◌<◌, ◌≤◌, ◌⊎◌, inl, inr, ⊎_elim, List, [], ◌∷◌, ◌++◌, length, take, drop, slice_get, slice_set, Option, None, Some, IfSome, IfErr, Result, Ok, Err, refl, ap, sym, subst, arith, length-append}
 use Rattle.std.specs.Option.{option_map}
 use Rattle.std.proofs.lemmas.Bool.{cases_eq}
 use Rattle.std.proofs.lemmas.List.{length-set, take_all}
-use Rattle.sx_layout.specs.Birth.{Birth, IsBirth, IsUnborn, birth_part}
+use Rattle.sx_layout.proofs.BornReadings.{not_both}
+use Rattle.sx_layout.specs.Birth.{Birth, IsBirth, IsBorn, IsNotOurs, IsUnborn, birth_part}
 use Rattle.sx_layout.specs.Born.{HasLog, StandsForNone}
 use Rattle.sx_newlog.specs.Calls.{GoesOn, IsSettled}
-use Rattle.sx_newlog.specs.Creating.{HasPart, IsShut, StayShut}
+use Rattle.sx_newlog.specs.Creating.{HasPart, IsEmptySince, IsMade, IsShut, StayShut, Tells}
+use Rattle.sx_newlog.specs.Opening.{IsOther}
+use Rattle.sx_newlog.specs.declared.fault.LogFault.{LogFault}
+use Rattle.sx_newlog.specs.declared.fault.LogFault.TheVariants.{Born, NotOurs}
 use Rattle.sx_newlog.proofs.Finding.{if_told}
-use Rattle.sx_volume.specs.Images.{Only, IsWithin, Follows, Appends, Cuts, Puts, Elapses}
+use Rattle.sx_volume.specs.Images.{Only, IsWithin, Follows, Appends, Cuts, Puts, Elapses, Syncs}
 use Rattle.sx_volume.specs.declared.volume.Volume.{Ghosts}
 
 -- ---- one call
@@ -153,3 +157,85 @@ part_puts (Some all) has = λ c put. by c put
 pub within_shut : (bytes : Option (List ℕ)) (images fewer : List ℕ → Type 0) → StayShut bytes images → ((c : List ℕ) → fewer c → images c) → StayShut bytes fewer
 within_shut None images fewer stay within = tt
 within_shut (Some all) images fewer stay within = λ c left. stay c (within c left)
+
+-- told as one list
+pub stay_mapped : (bytes now : Option (List ℕ)) (images : List ℕ → Type 0) (x : List ℕ) → now ≡ option_map (λ _. x) bytes → StayShut bytes images → StayShut now images
+stay_mapped None now images x is stay = subst (λ (b : Option (List ℕ)). StayShut b images) (sym is) tt
+stay_mapped (Some all) now images x is stay = subst (λ (b : Option (List ℕ)). StayShut b images) (sym is) stay
+
+pub mapped_then : (bytes : Option (List ℕ)) (x more : List ℕ) → option_map (λ all. all ++ more) (option_map (λ _. x) bytes) ≡ option_map (λ _. x ++ more) bytes
+mapped_then None x more = refl
+mapped_then (Some all) x more = refl
+
+pub some_mapped : (bytes now : Option (List ℕ)) (x : List ℕ) → now ≡ option_map (λ _. x) bytes → IsSome bytes → IsSome now
+some_mapped None now x is some = cc some
+some_mapped (Some all) now x is some = subst (λ (b : Option (List ℕ)). IsSome b) (sym is) refl
+
+-- ---- the answer
+
+pub made_unborn : (image : List ℕ) (result : Result (Unit {0}) LogFault) → IsUnborn image → IfErr result IsOther → IsMade image result
+made_unborn image (Ok u) unborn other = record {
+  unborn = λ is. inl refl;
+  born = λ born. absurd (not_both image unborn born);
+  not_ours = λ first is. absurd (is.not_unborn unborn);
+}
+made_unborn image (Err fault) unborn other = record {
+  unborn = λ is. inr (fault, refl, other);
+  born = λ born. absurd (not_both image unborn born);
+  not_ours = λ first is. absurd (is.not_unborn unborn);
+}
+
+pub made_born : (image : List ℕ) → IsBorn image → IsMade image (Err Born)
+made_born image born = record {
+  unborn = λ unborn. absurd (not_both image unborn born);
+  born = λ is. (Born, refl, inl refl);
+  not_ours = λ first is. absurd (is.not_born born);
+}
+
+pub made_not_ours : (image : List ℕ) (first : ℕ) → IsNotOurs image first → IsMade image (Err (NotOurs first))
+made_not_ours image first ours = record {
+  unborn = λ unborn. absurd (ours.not_unborn unborn);
+  born = λ born. absurd (ours.not_born born);
+  not_ours = λ other is. (NotOurs first, refl, inl (ap NotOurs (same_number first other (sym ours.first_is ∙ is.first_is))));
+}
+
+pub made_other : (image : List ℕ) (fault : LogFault) → IsOther fault → IsMade image (Err fault)
+made_other image fault other = record { unborn = λ is. inr (fault, refl, other); born = λ is. (fault, refl, inr other); not_ours = λ first is. (fault, refl, inr other) }
+
+-- the birth gate is opened in front of the part that was written
+pub made_told : (bytes closed written made : Option (List ℕ)) (part : List ℕ) → (IsSome bytes → IsSome closed) → written ≡ option_map (λ _. 0 ∷ part) closed → made ≡ option_map (λ all. slice_set all 0 1) written → Tells (1 ∷ part) bytes made
+made_told None closed written made part on is done = tt
+made_told (Some all) None written made part on is done = let some : false ≡ true = on refl in cc some
+made_told (Some all) (Some more) written made part on is done = done ∙ ap (λ (b : Option (List ℕ)). option_map (λ all. slice_set all 0 1) b) is
+
+-- ---- over a volume that is unborn, or not
+
+pub reads_unborn : (bytes : Option (List ℕ)) (image since : List ℕ → Type 0) → IfSome bytes (λ all. Only all image) → IsWithin image since → IfSome bytes (λ all. IsUnborn all → (c : List ℕ) → since c → StandsForNone c)
+reads_unborn None image since only within = tt
+reads_unborn (Some all) image since only within = λ unborn c left. inl (subst IsUnborn (sym (only c (within c left))) unborn)
+
+pub then_unborn : (bytes now : Option (List ℕ)) (start mid end : ℕ) (was is : ℕ → List ℕ → Type 0) (had has : ℕ → Type 0) → now ≡ bytes → start ≤ mid → IfSome bytes (λ all. IsUnborn all → (c : List ℕ) → was start c → StandsForNone c)
+    → IfSome now (λ _. (c : List ℕ) → is mid c → StandsForNone c) → Elapses mid end was is had has → IfSome bytes (λ all. IsUnborn all → (c : List ℕ) → is start c → StandsForNone c)
+then_unborn None now start mid end was is had has same le first second time = tt
+then_unborn (Some all) now start mid end was is had has same le first second time = λ unborn.
+    then_images StandsForNone (Some all) now start mid end was is had has (same_told (Some all) now same) le (first unborn) second time
+
+-- the first sync, and what comes behind it
+pub empty_since : (bytes now : Option (List ℕ)) (start mid end : ℕ) (before : List ℕ → Type 0) (was is : ℕ → List ℕ → Type 0) (had has is_synced : ℕ → Type 0) → now ≡ bytes
+    → IfSome bytes (λ _. Syncs start mid had has) → IsWithin before (was start) → Elapses mid end was is has is_synced → IfSome now (λ image. IsUnborn image → (c : List ℕ) → is mid c → StandsForNone c)
+    → IfSome bytes (λ image. IsUnborn image → IsEmptySince start end before is is_synced)
+empty_since None now start mid end before was is had has is_synced same synced within time left = tt
+empty_since (Some image) now start mid end before was is had has is_synced same synced within time left = λ unborn.
+    let since : IsUnborn image → (c : List ℕ) → is mid c → StandsForNone c = subst (λ (b : Option (List ℕ)). IfSome b (λ all. IsUnborn all → (c : List ℕ) → is mid c → StandsForNone c)) same left in
+    record {
+      moment = mid;
+      later = synced.later;
+      no_later = time.later;
+      synced = time.syncs mid synced.here;
+      up_to = λ c was_left. ⊎_elim (λ (earlier : was start c). inl (within c earlier)) (λ (during : is mid c). inr during) (time.nothing_else start c (omega (arith, synced.later)) was_left);
+      since = since unborn;
+    }
+
+pub or_not : (bytes : Option (List ℕ)) (P : List ℕ → Type 0) (Q : Type 0) → IfSome bytes (λ image. IsUnborn image → P image) → IfSome bytes (λ image. IsUnborn image → P image ⊎ Q)
+or_not None P Q holds = tt
+or_not (Some image) P Q holds = λ unborn. inl (holds unborn)

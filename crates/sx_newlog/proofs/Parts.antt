@@ -7,7 +7,7 @@ use Rattle.std.proofs.lemmas.Slice.Eq.{bytes_eq-Decides}
 use Rattle.sha2.specs.Sha256.{sha256}
 use Rattle.sx_frame.specs.Violation.{tell}
 use Rattle.sx_layout.proofs.Broken.{broken_here, unbroken}
-use Rattle.sx_layout.specs.Birth.{BirthFields, are_names, birth_rules, fields_bytes, is_name, magic, part_bytes}
+use Rattle.sx_layout.specs.Birth.{Birth, BirthFields, are_names, birth_part, birth_rules, fields_bytes, is_name, magic, padded, part_bytes, undigested}
 use Rattle.sx_layout.specs.Rule.{first_broken}
 
 -- fields read one behind another from 172 bytes are all there is
@@ -81,3 +81,20 @@ name_tested count bytes name zeros text behind least most name_is zeros_are text
     in_range true b t one other = cc
     in_range false true t one other = cc
     in_range false false t one other = refl
+
+-- a name that was appended in pieces
+pub name_put : (o0 o1 o2 o3 bytes name zeros : List ℕ) (n m : ℕ) → o1 ≡ o0 ++ n ∷ [] → o2 ≡ o1 ++ bytes → o3 ≡ o2 ++ zeros → n ≡ length name → bytes ≡ name → zeros ≡ drop m (replicate 64 0) → m ≡ length name
+    → o3 ≡ o0 ++ (length name ∷ padded name)
+name_put o0 o1 o2 o3 bytes name zeros n m e1 e2 e3 count is zeros_are long =
+    let behind : zeros ≡ replicate (64 - length name) 0 = zeros_are ∙ drop-replicate {X = ℕ} m 64 0 ∙ ap (λ k. replicate (64 - k) 0) long in
+    e3 ∙ (λ i. e2 i ++ behind i) ∙ (λ i. (e1 i ++ is i) ++ replicate (64 - length name) 0) ∙ ap (λ k. ((o0 ++ k ∷ []) ++ name) ++ replicate (64 - length name) 0) count
+    ∙ append_assoc (o0 ++ length name ∷ []) name (replicate (64 - length name) 0) ∙ append_assoc o0 (length name ∷ []) (padded name)
+
+-- a birth part that was appended in pieces
+pub part_put : (birth : Birth) (p1 p2 p3 p4 p5 p6 p7 digest : List ℕ) → p1 ≡ [] ++ magic → p2 ≡ p1 ++ 1 ∷ [] → p3 ≡ p2 ++ birth.window ∷ [] → p4 ≡ p3 ++ (length birth.from ∷ padded birth.from)
+    → p5 ≡ p4 ++ (length birth.to ∷ padded birth.to) → digest ≡ sha256 p5 → p6 ≡ p5 ++ digest → p7 ≡ p6 ++ 0 ∷ [] → p7 ≡ birth_part birth ++ 0 ∷ []
+unfolding birth_part
+part_put birth p1 p2 p3 p4 p5 p6 p7 digest e1 e2 e3 e4 e5 digested e6 e7 =
+    let first : p4 ≡ magic ++ (1 ∷ birth.window ∷ (length birth.from ∷ padded birth.from)) = e4 ∙ ap (λ (p : List ℕ). p ++ (length birth.from ∷ padded birth.from)) (e3 ∙ ap (λ (p : List ℕ). p ++ birth.window ∷ []) (e2 ∙ ap (λ (p : List ℕ). p ++ 1 ∷ []) e1)) in
+    let all : p5 ≡ fields_bytes (undigested birth []) = e5 ∙ ap (λ (p : List ℕ). p ++ (length birth.to ∷ padded birth.to)) first in
+    e7 ∙ ap (λ (p : List ℕ). p ++ 0 ∷ []) (e6 ∙ (λ i. all i ++ digested i) ∙ ap (λ (d : List ℕ). fields_bytes (undigested birth []) ++ sha256 d) all)

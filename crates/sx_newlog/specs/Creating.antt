@@ -56,3 +56,15 @@ StayShut bytes images = IfSome bytes (λ _. (c : List ℕ) → images c → slic
 -- the bytes are a closed birth gate and a birth part, with the closed gate of the first group
 abbrev pub HasPart : List ℕ → Type 0
 HasPart all = (birth : Birth) × IsBirth birth × (all ≡ 0 ∷ (birth_part birth ++ 0 ∷ []))
+
+-- where the bytes were told, they are now told as these
+abbrev pub Tells : List ℕ → Option (List ℕ) → Option (List ℕ) → Type 0
+Tells bytes old new = IfSome old (λ _. new ≡ Some bytes)
+
+-- creating is refused
+abbrev pub IsRefusal : LogFault → Type 0
+IsRefusal fault = (fault ≡ Born) ⊎ ((first : ℕ) × (fault ≡ NotOurs first))
+
+-- it answers nothing else
+abbrev pub IsOfCreate : LogFault → Type 0
+IsOfCreate fault = IsOther fault ⊎ IsRefusal fault

@@ -1,22 +1,72 @@
 // A volume is made: its birth part is written behind the closed birth gate, and then the gate is opened.
-ghost use Rattle.std.specs.Prelude.{◌≡◌, ◌≢◌, ◌+◌, ◌<◌, ◌≤◌, ◌++◌, ◌⊎◌, [], ◌∷◌, List, ℕ, Some, IfSome, IfOk, IfErr, OnOk, OnErr, IsErrOf, slice_get, slice_set};
+ghost use Rattle.std.specs.Prelude.{◌≡◌, ◌≢◌, ◌+◌, ◌<◌, ◌≤◌, ◌++◌, ◌⊎◌, [], ◌∷◌, List, ℕ, Some, IfSome, IfOk, IfErr, OnOk, OnErr, IsErr, IsErrOf, IsSome, IsTrue, IsUtf8, length, slice_get, slice_set};
 ghost use Rattle.std.specs.Arc.{arc_value};
 ghost use Rattle.std.specs.Option.{option_map};
-ghost use Rattle.sx_layout.specs.Birth.{IsUnborn};
-ghost use Rattle.sx_layout.specs.Born.{StandsForNone};
+ghost use Rattle.sx_layout.specs.Birth.{IsBirth, IsUnborn, birth_part, padded};
+ghost use Rattle.sx_layout.specs.Born.{HasLog, StandsForNone};
 ghost use Rattle.sx_newlog.specs.Calls.{GoesOn, IsSettled};
-ghost use Rattle.sx_newlog.specs.Creating.{HasPart, IsShut, StayShut};
+ghost use Rattle.sx_newlog.specs.Creating.{CanBeBorn, HasPart, IsEmptySince, IsMade, IsOfCreate, IsRefusal, IsShort, IsShut, IsUnsynced, StayShut, Tells, newborn};
 ghost use Rattle.sx_newlog.specs.Opening.{IsOther};
+ghost use Rattle.sx_newlog.specs.Shown.{birth_of};
 ghost use Rattle.sx_outside.specs.Faults.{Rose};
 ghost use Rattle.sx_volume.specs.Held.{IsHeldFor, held_piece};
 ghost use Rattle.sx_volume.specs.Images.{IsWithin, NoSync, Syncs};
 
-use crate::LogFault;
-use crate::reading::{CLOSED, OPEN, byte_at};
+use crate::reading::{CLOSED, FORMAT, MAGIC, OPEN, ZEROS, Finding, byte_at, find_birth};
+use crate::{Birth, LogFault};
+use sha2::{Digest, Sha256};
 use std::alloc::{AllocError, Global};
 use std::sync::Arc;
 use sx_outside::Failed;
+use sx_tree::text::Text;
 use sx_volume::Volume;
+
+/// Makes an unborn volume one with this birth and no commits.
+///
+/// It syncs, closes the birth gate and syncs, writes the birth part and syncs, and opens the gate and syncs. Over no byte at all
+/// that makes seven calls of the volume; else it reads first, and cuts what stood behind the gate.
+///
+/// `Born` and `NotOurs` come where the volume is such, and then nothing is written. `Failed` comes only where a call of the volume
+/// failed.
+pub fn create<V: Volume>(alloc: Global, volume: &mut V, birth: &Birth) -> Result<(), LogFault>
+    requires { CanBeBorn (birth_of birth.now) }
+    ensures exactly { IfSome (V.bytes volume.old) (λ image. IsMade image result) }
+    ensures answers { IfErr result IsOfCreate }
+    ensures born { OnOk result (Tells (newborn (birth_of birth.now)) (V.bytes volume.old) (V.bytes volume.new)) }
+    ensures log { OnOk result (HasLog (newborn (birth_of birth.now)) (birth_of birth.now) []) }
+    ensures settled { OnOk result (IsSettled V.Volume volume.new) }
+    ensures refused { IfErr result (λ fault. IsRefusal fault → V.bytes volume.new ≡ V.bytes volume.old) }
+    ensures empty { IfSome (V.bytes volume.old) (λ image. IsUnborn image
+        → IsEmptySince (V.moment volume.old) (V.moment volume.new) (V.is_image volume.old) (V.was_image volume.new) (V.synced volume.new)
+        ⊎ (IsErr result × IsUnsynced (V.moment volume.old) (V.is_image volume.old) (V.was_image volume.new) (V.synced volume.old) (V.synced volume.new))) }
+    ensures cause { IsErrOf result LogFault.Failed → Rose (V.faults volume.old) (V.faults volume.new) }
+    ensures on { GoesOn V.Volume volume.old volume.new }
+{
+    let part = Arc::new(alloc, part_with_gate(alloc, birth)?)?;
+    begin(alloc, volume, 8)?;
+    make_unborn(alloc, volume, part)
+}
+
+// Makes the birth part where the volume is unborn.
+fn make_unborn<V: Volume>(alloc: Global, volume: &mut V, part: Arc<Vec<u8>>) -> Result<(), LogFault>
+    requires part { HasPart (CLOSED ∷ (arc_value part).items) }
+    requires settled { IsSettled V.Volume volume.old }
+    requires spare { 7 ≤ V.spare volume.old }
+    ensures exactly { IfSome (V.bytes volume.old) (λ image. IsMade image result) }
+    ensures answers { IfErr result IsOfCreate }
+    ensures made { OnOk result (Tells (OPEN ∷ (arc_value part).items) (V.bytes volume.old) (V.bytes volume.new)) }
+    ensures settled { OnOk result (IsSettled V.Volume volume.new) }
+    ensures refused { IfErr result (λ fault. IsRefusal fault → V.bytes volume.new ≡ V.bytes volume.old) }
+    ensures images { IfSome (V.bytes volume.old) (λ image. IsUnborn image → (c : List ℕ) → V.was_image volume.new (V.moment volume.old) c → StandsForNone c) }
+    ensures cause { IsErrOf result LogFault.Failed → Rose (V.faults volume.old) (V.faults volume.new) }
+    ensures on { GoesOn V.Volume volume.old volume.new }
+{
+    match find_birth(volume)? {
+        Finding::Unborn => make(alloc, volume, part),
+        Finding::Born(_) => Err(LogFault::Born),
+        Finding::NotOurs(first) => Err(LogFault::NotOurs { first }),
+    }
+}
 
 /// Closes the birth gate of a volume that is not born, and syncs.
 fn close_birth_gate<V: Volume>(alloc: Global, volume: &mut V) -> Result<(), LogFault>
@@ -26,6 +76,7 @@ fn close_birth_gate<V: Volume>(alloc: Global, volume: &mut V) -> Result<(), LogF
     ensures shut { OnOk result (IsShut (V.bytes volume.new)) }
     ensures size { OnOk result (1 ≤ V.size volume.new) }
     ensures settled { OnOk result (IsSettled V.Volume volume.new) }
+    ensures goes_on_telling { IsSome (V.bytes volume.old) → IsSome (V.bytes volume.new) }
     ensures spare { V.spare volume.old ≤ V.spare volume.new + 2 }
     ensures fault { IfErr result IsOther }
     ensures images { IfSome (V.bytes volume.old) (λ _. (c : List ℕ) → V.was_image volume.new (V.moment volume.old) c → StandsForNone c) }
@@ -44,6 +95,7 @@ fn shut_birth_gate<V: Volume>(alloc: Global, volume: &mut V) -> Result<(), LogFa
     requires spare { 1 ≤ V.spare volume.old }
     ensures shut { OnOk result (IsShut (V.bytes volume.new)) }
     ensures size { OnOk result (1 ≤ V.size volume.new) }
+    ensures goes_on_telling { IsSome (V.bytes volume.old) → IsSome (V.bytes volume.new) }
     ensures spare { V.spare volume.old ≤ V.spare volume.new + 1 }
     ensures fault { IfErr result IsOther }
     ensures images { IfSome (V.bytes volume.old) (λ _. (c : List ℕ) → V.was_image volume.new (V.moment volume.old) c → StandsForNone c) }
@@ -136,4 +188,76 @@ fn open_birth_gate<V: Volume>(volume: &mut V) -> Result<(), Failed>
 {
     volume.put_byte(0, OPEN)?;
     volume.sync()
+}
+
+// Makes the birth part of a volume that is not born. The part has the closed gate of the first group at its end.
+fn make<V: Volume>(alloc: Global, volume: &mut V, part: Arc<Vec<u8>>) -> Result<(), LogFault>
+    requires part { HasPart (CLOSED ∷ (arc_value part).items) }
+    requires unborn { IfSome (V.bytes volume.old) IsUnborn }
+    requires settled { IsSettled V.Volume volume.old }
+    requires spare { 7 ≤ V.spare volume.old }
+    ensures made { OnOk result (Tells (OPEN ∷ (arc_value part).items) (V.bytes volume.old) (V.bytes volume.new)) }
+    ensures settled { OnOk result (IsSettled V.Volume volume.new) }
+    ensures fault { IfErr result IsOther }
+    ensures images { IfSome (V.bytes volume.old) (λ _. (c : List ℕ) → V.was_image volume.new (V.moment volume.old) c → StandsForNone c) }
+    ensures cause { IsErrOf result LogFault.Failed → Rose (V.faults volume.old) (V.faults volume.new) }
+    ensures on { GoesOn V.Volume volume.old volume.new }
+{
+    close_birth_gate(alloc, volume)?;
+    write_part(alloc, volume, part)?;
+    open_birth_gate(volume)?;
+    Ok(())
+}
+
+// The birth part, with the closed gate of the first group behind it.
+fn part_with_gate(alloc: Global, birth: &Birth) -> Result<Vec<u8>, AllocError>
+    requires { CanBeBorn (birth_of birth.now) }
+    ensures part { IfOk result (λ part. part.items ≡ birth_part (birth_of birth.now) ++ CLOSED ∷ []) }
+    ensures birth { OnOk result (IsBirth (birth_of birth.now)) }
+{
+    let mut part = Vec::new(alloc);
+    part.extend_from_slice(&MAGIC)?;
+    part.push(FORMAT)?;
+    part.push(birth.window)?;
+    put_name(&mut part, &birth.from)?;
+    put_name(&mut part, &birth.to)?;
+    let digest = Sha256::digest(part.as_slice());
+    part.extend_from_slice(&digest)?;
+    part.push(CLOSED)?;
+    Ok(part)
+}
+
+// Appends the length of the name, the name, and zeros up to 64 bytes.
+fn put_name(out: &mut Vec<u8>, name: &Text) -> Result<(), AllocError>
+    requires { IsShort name.now }
+    ensures put { OnOk result (out.new.items ≡ out.old.items ++ (length name.now ∷ padded name.now)) }
+    ensures utf8 { IsUtf8 name.now }
+{
+    let bytes = name.as_bytes();
+    out.push(bytes.len() as u8)?;
+    out.extend_from_slice(bytes)?;
+    let (_, zeros) = ZEROS.split_at(bytes.len());
+    out.extend_from_slice(zeros)?;
+    Ok(())
+}
+
+/// Syncs, with so many calls ready, this one among them.
+pub(crate) fn begin<V: Volume>(alloc: Global, volume: &mut V, calls: u32) -> Result<(), LogFault>
+    requires { 1 ≤ calls }
+    ensures settled { OnOk result (IsSettled V.Volume volume.new) }
+    ensures calm { OnOk result (IsTrue (V.calm volume.new)) }
+    ensures same_bytes { OnOk result (V.bytes volume.new ≡ V.bytes volume.old) }
+    ensures same_size { V.size volume.new ≡ V.size volume.old }
+    ensures same_read { V.bytes_read volume.new ≡ V.bytes_read volume.old }
+    ensures spare { OnOk result (calls ≤ V.spare volume.new + 1) }
+    ensures fault { IfErr result IsOther }
+    ensures synced { OnOk result (IfSome (V.bytes volume.old) (λ _. Syncs (V.moment volume.old) (V.moment volume.new) (V.synced volume.old) (V.synced volume.new))) }
+    ensures no_sync { OnErr result (NoSync (V.synced volume.old) (V.synced volume.new)) }
+    ensures images { IsWithin (V.is_image volume.old) (V.was_image volume.new (V.moment volume.old)) }
+    ensures cause { IsErrOf result LogFault.Failed → Rose (V.faults volume.old) (V.faults volume.new) }
+    ensures on { GoesOn V.Volume volume.old volume.new }
+{
+    volume.ready(alloc, calls)?;
+    volume.sync()?;
+    Ok(())
 }

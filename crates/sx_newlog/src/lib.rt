@@ -8,6 +8,7 @@ mod log;
 mod reading;
 mod limits;
 
+pub use creation::create;
 pub use fault::{LogFault, RoomFault};
 pub use log::{Birth, GroupRow, Groups, Log};
 pub use limits::room;

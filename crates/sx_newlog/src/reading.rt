@@ -20,6 +20,9 @@ use sx_volume::Volume;
 /// The first bytes of a birth part.
 pub(crate) const MAGIC: [u8; 8] = *b"SXSNAP01";
 
+/// The format that this program writes and reads.
+pub(crate) const FORMAT: u8 = 1;
+
 /// The byte of a gate that is not open.
 pub(crate) const CLOSED: u8 = 0;
 
@@ -33,7 +36,7 @@ pub(crate) const BIRTH_BYTES: usize = 173;
 pub(crate) const BORN_BYTES: u64 = 174;
 
 // What stands behind a name.
-const ZEROS: [u8; 64] = [0; 64];
+pub(crate) const ZEROS: [u8; 64] = [0; 64];
 
 /// The fields of a birth part, as they stand there.
 #[derive(Clone, Copy)]
@@ -126,8 +129,8 @@ pub(crate) fn birth_damage(given: &GivenFields) -> Option<Damage>
             found,
         });
     }
-    if given.format != 1 {
-        return Some(number_damage(1, 2, 1, u64::from(given.format)));
+    if given.format != FORMAT {
+        return Some(number_damage(1, 2, u64::from(FORMAT), u64::from(given.format)));
     }
     if given.window < 1 || given.window > 8 {
         return Some(number_damage(1, 3, 8, u64::from(given.window)));
