@@ -59,7 +59,12 @@ pub fn open(alloc: Global, bytes: &[u8], digest: &[u8; 32], place: u64) -> Resul
     }
     let (kind, length, body) = parts(bytes);
     if body.len() as u64 != u64::from(length) {
-        return Err(FrameFault::Damaged(number_damage(place, 17, body.len() as u64, u64::from(length))));
+        return Err(FrameFault::Damaged(number_damage(
+            place,
+            17,
+            body.len() as u64,
+            u64::from(length),
+        )));
     }
     let body = Bytes::from_vec(body.to_vec(alloc)?);
     Ok(Frame { kind, body })

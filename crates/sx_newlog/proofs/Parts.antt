@@ -53,6 +53,7 @@ first_three f found test is tested holds format least most =
   where
     one_format : (n : ℕ) → n ≡ 1 → not (n == 1) ≡ false
     one_format n is = grind (arith, nat_tests)
+
     in_window : (n : ℕ) → 1 ≤ n → n ≤ 8 → (nat_lt n 1 || nat_lt 8 n) ≡ false
     in_window n least most = grind (arith, nat_tests)
 
@@ -77,6 +78,7 @@ name_tested count bytes name zeros text behind least most name_is zeros_are text
   where
     not_less : (a b : ℕ) → b ≤ a → nat_lt a b ≡ false
     not_less a b le = grind (arith, nat_tests)
+
     in_range : (a b t : Bool) → a ≡ false → b ≡ false → (not a && not b && t) ≡ t
     in_range true b t one other = cc
     in_range false true t one other = cc

@@ -12,7 +12,7 @@ ghost use Rattle.sx_outside.specs.Faults.{Rose};
 ghost use Rattle.sx_volume.specs.Held.{IsHeldFor, held_piece};
 ghost use Rattle.sx_volume.specs.Images.{IsWithin, NoSync, Syncs};
 
-use crate::reading::{CLOSED, FORMAT, MAGIC, OPEN, ZEROS, Finding, byte_at, find_birth};
+use crate::reading::{CLOSED, FORMAT, Finding, MAGIC, OPEN, ZEROS, byte_at, find_birth};
 use crate::{Birth, LogFault};
 use sha2::{Digest, Sha256};
 use std::alloc::{AllocError, Global};

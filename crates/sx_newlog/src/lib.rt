@@ -4,11 +4,11 @@
 
 mod creation;
 mod fault;
+mod limits;
 mod log;
 mod reading;
-mod limits;
 
 pub use creation::create;
 pub use fault::{LogFault, RoomFault};
-pub use log::{Birth, GroupRow, Groups, Log};
 pub use limits::room;
+pub use log::{Birth, GroupRow, Groups, Log};

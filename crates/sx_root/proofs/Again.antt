@@ -33,7 +33,8 @@ front_root-again root rest is =
     let b0 = to_be_bytes w32 root.revision ++ b1 in
     let regrouped : root_bytes root ++ rest ≡ mark ++ b0 = refl in
     ap front_root regrouped
-    ∙ rw (front_piece_again mark b0,
+    ∙ rw (
+      front_piece_again mark b0,
       front_number_again w32 root.revision b1 (lit< tt) is.revision,
       front_number_again w64 (cast_unsigned w64 root.time) b2 (lit< tt) (time_below root.time is.time),
       front_number_again w32 root.first_frame b3 (lit< tt) is.first_frame,
@@ -43,7 +44,8 @@ front_root-again root rest is =
       front_number_again w32 root.next b7 (lit< tt) is.next,
       front_number_again w32 root.nodes b8 (lit< tt) is.nodes,
       front_number_again w32 root.paths b9 (lit< tt) is.paths,
-      front_number_again w32 root.body b10 (lit< tt) is.body)
+      front_number_again w32 root.body b10 (lit< tt) is.body,
+    )
     (with_time root rest (cast_signed w64 (cast_unsigned w64 root.time)) (to_z-of_z w64 root.time is.time))
 
 pub length-root_bytes : (root : RevisionRoot) → length (root_bytes root) ≡ 48
