@@ -1,6 +1,4 @@
 //! Roots of revisions: their bytes, and the revision at a time.
-ghost use Rattle.std.specs.Prelude.{List, ℤ};
-
 use std::test::Fail;
 use sx_bytes::{Fields, FieldsOut};
 use sx_root::{RevisionRoot, Roots, at_time};
@@ -23,6 +21,31 @@ const BYTES: [u8; 48] = [
     b'S', b'X', b'G', b'R', 0, 0, 0, 1, 0, 0, 0, 0, 0, 0, 3, 232, 0, 0, 0, 0, 0, 0, 0, 10, 0, 0, 0,
     5, 0, 0, 0, 10, 0, 0, 0, 5, 0, 0, 0, 5, 0, 0, 0, 2, 0, 0, 2, 10,
 ];
+
+/// Three commits, at the times 1000, 1000 and 2000.
+struct Commits;
+
+impl Roots for Commits {
+    ghost use Rattle.std.specs.Prelude.{[], ◌∷◌, pos};
+
+    ghost times = { λ _. pos 1000 ∷ pos 1000 ∷ pos 2000 ∷ [] };
+
+    fn count(&self) -> u32 {
+        3
+    }
+
+    fn time(&self, revision: u32) -> i64 {
+        if revision < 3 { 1000 } else { 2000 }
+    }
+}
+
+#[test]
+fn the_revision_at_a_time(rt: HostRuntime) -> Result<(), Fail> {
+    for (time, revision) in [(999, 0), (1000, 2), (1999, 2), (2000, 3)] {
+        assert_eq!(rt; at_time(&Commits, time), revision);
+    }
+    Ok(())
+}
 
 #[test]
 fn the_bytes_of_a_root(rt: HostRuntime) -> Result<(), Fail> {
