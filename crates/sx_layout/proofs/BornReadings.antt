@@ -1,10 +1,10 @@
 -- An image with a birth is read in one way.
-use Rattle.std.proofs.Common.{◌≡◌, ◌≢◌, ◌∙◌, ℕ, ◌+◌, ◌<◌, ◌≤◌, ◌⊎◌, inl, inr, List, [], ◌∷◌, ◌++◌, length, take, drop, slice_get, Option, None, Some, refl, ap, sym, subst, append_assoc, length-append, arith}
+use Rattle.std.proofs.Common.{◌≡◌, ◌∙◌, ℕ, ◌+◌, ◌<◌, ◌≤◌, ◌⊎◌, inl, inr, List, [], ◌∷◌, ◌++◌, length, take, drop, slice_get, None, Some, refl, ap, sym, subst, append_assoc, length-append, arith}
 use Rattle.sx_bytes.specs.declared.damage.Damage.{Damage}
 use Rattle.sx_frame.specs.Violation.{Violation, damage_at}
-use Rattle.sx_layout.proofs.Births.{birth_again, fields_again, length-birth_part, length-part_bytes, part_of_birth}
+use Rattle.sx_layout.proofs.Births.{birth_again, fields_again, length-birth_part, part_of_birth}
 use Rattle.sx_layout.proofs.FrameGroups.{frame_group_again, none_broken}
-use Rattle.sx_layout.specs.Birth.{AreFields, Birth, BirthFields, IsBirth, IsBorn, IsNotOurs, IsUnborn, birth_part, birth_rules, magic, part_bytes}
+use Rattle.sx_layout.specs.Birth.{Birth, BirthFields, IsBirth, IsBorn, IsNotOurs, IsUnborn, birth_part, birth_rules}
 use Rattle.sx_layout.specs.Born.{HasLog, IsBirthDamaged, IsGroupDamaged, Reading, Reads, Log, Unborn, NotOurs, Damaged}
 use Rattle.sx_layout.specs.FrameGroup.{FrameGroup, IsFrameGroup, behind_gates, first_root, frame_group_bytes, gate_behind, last_root}
 use Rattle.sx_layout.specs.Rule.{first_broken}

@@ -4,7 +4,7 @@ use Rattle.std.specs.Prelude.{pos}
 use Rattle.sha2.specs.Sha256.{compress, digest_bytes, first_words, hash_after, rounds, schedule, sha256}
 use Rattle.sx_bytes.specs.Front.{front_number, front_piece}
 use Rattle.sx_frame.specs.Violation.{tell}
-use Rattle.sx_layout.specs.Birth.{Birth, birth_part, birth_rules, fields_of, fields_bytes, undigested}
+use Rattle.sx_layout.specs.Birth.{Birth, birth_part, fields_bytes, undigested}
 use Rattle.sx_layout.specs.FrameGroup.{FrameGroup, first_root, frame_group_bytes, group_of_frames, group_size}
 use Rattle.sx_layout.specs.Rule.{first_broken}
 use Rattle.sx_layout.specs.Rules.{count_rules, group_violation, order_rules, table_rules}

@@ -1,5 +1,5 @@
 -- A group of frames at the front of bytes: what breaks a rule there, and where none is broken.
-use Rattle.std.proofs.Common.{◌≡◌, ◌≢◌, ◌∙◌, ℕ, ◌+◌, ◌*◌, ◌<◌, ◌≤◌, Bool, true, false, not, List, [], ◌∷◌, ◌++◌, length, take, drop, Option, None, Some, if◌then◌else◌, refl, ap, sym, subst, append_assoc, length-append, arith, nat_lt}
+use Rattle.std.proofs.Common.{◌≡◌, ◌∙◌, ℕ, ◌+◌, ◌*◌, ◌<◌, ◌≤◌, Bool, false, not, List, ◌∷◌, ◌++◌, length, take, drop, Option, None, Some, if◌then◌else◌, ap, sym, append_assoc, length-append, arith, nat_lt}
 use Rattle.std.specs.Str.{bytes_eq}
 use Rattle.std.proofs.lemmas.Bool.Decides.{nat_tests}
 use Rattle.std.proofs.lemmas.List.{take_at, drop_at}
@@ -8,7 +8,7 @@ use Rattle.sha2.proofs.Facts256.{length-sha256}
 use Rattle.sha2.specs.Sha256.{sha256}
 use Rattle.sx_frame.specs.Violation.{Violation, tell}
 use Rattle.sx_frame.specs.declared.table.FrameRow.{FrameRow}
-use Rattle.sx_layout.proofs.Broken.{broken_behind, broken_there, unbroken, broken_here}
+use Rattle.sx_layout.proofs.Broken.{broken_behind, unbroken}
 use Rattle.sx_layout.proofs.Heads.{same_front}
 use Rattle.sx_layout.proofs.Tables.{length-table_bytes, rows_again}
 use Rattle.sx_layout.specs.FrameGroup.{AreRows, FrameGroup, IsFrameGroup, frame_group_bytes, group_size, head_part, rows_at, table_bytes}

@@ -1,6 +1,6 @@
 -- What is found at the front of a volume.
 use Rattle.std.specs.Prelude.{◌↔◌, IsTrue}
-use Rattle.std.proofs.Common.{Bool, true, false, ◌≡◌, ◌≢◌, ◌∙◌, ℕ, zero, suc, ◌+◌, ◌<◌, ◌≤◌, ◌⊎◌, inl, inr, List, [], ◌∷◌, ◌++◌, length, take, drop, slice_get, slice_index_or, Option, None, Some, IfSome, IfNone, MatchOption, refl, ap, sym, subst, append_assoc, length-append, arith}
+use Rattle.std.proofs.Common.{Bool, true, false, ◌≡◌, ◌≢◌, ◌∙◌, ℕ, suc, ◌<◌, ◌≤◌, inl, inr, List, [], ◌∷◌, ◌++◌, length, take, drop, slice_get, slice_index_or, Option, None, Some, IfSome, IfNone, MatchOption, refl, ap, sym, length-append, arith}
 use Rattle.std.proofs.lemmas.List.{take-append-drop, take-append-le, length-drop}
 use Rattle.sx_layout.proofs.Births.{birth_told, fields_again, length-part_bytes, part_of_birth}
 use Rattle.sx_layout.specs.Birth.{AreFields, Birth, BirthFields, IsBorn, IsNotOurs, IsUnborn, birth_part, birth_rules, magic, part_bytes}

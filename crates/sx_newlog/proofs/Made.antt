@@ -1,20 +1,17 @@
 -- What a crash leaves while a volume is made: it stands for no commits.
 use Rattle.std.specs.Prelude.{IsSome}
-use Rattle.std.proofs.Common.{false, true, ◌≡◌, ◌≢◌, ◌∙◌, ℕ, zero, suc, ◌+◌, ◌<◌, ◌≤◌, ◌⊎◌, inl, inr, ⊎_elim, List, [], ◌∷◌, ◌++◌, length, take, drop, slice_get, slice_set, Option, None, Some, IfSome, IfErr, Result, Ok, Err, refl, ap, sym, subst, arith, length-append}
+use Rattle.std.proofs.Common.{false, true, ◌≡◌, ◌≢◌, ◌∙◌, ℕ, suc, ◌≤◌, ◌⊎◌, inl, inr, ⊎_elim, List, [], ◌∷◌, ◌++◌, length, take, slice_get, slice_set, Option, None, Some, IfSome, IfErr, Result, Ok, Err, refl, ap, sym, subst, arith}
 use Rattle.std.specs.Option.{option_map}
 use Rattle.std.proofs.lemmas.Bool.{cases_eq}
 use Rattle.std.proofs.lemmas.List.{length-set, take_all}
 use Rattle.sx_layout.proofs.BornReadings.{not_both}
 use Rattle.sx_layout.specs.Birth.{Birth, IsBirth, IsBorn, IsNotOurs, IsUnborn, birth_part}
-use Rattle.sx_layout.specs.Born.{HasLog, StandsForNone}
-use Rattle.sx_newlog.specs.Calls.{GoesOn, IsSettled}
+use Rattle.sx_layout.specs.Born.{StandsForNone}
 use Rattle.sx_newlog.specs.Creating.{HasPart, IsEmptySince, IsMade, IsShut, StayShut, Tells}
 use Rattle.sx_newlog.specs.Opening.{IsOther}
 use Rattle.sx_newlog.specs.declared.fault.LogFault.{LogFault}
 use Rattle.sx_newlog.specs.declared.fault.LogFault.TheVariants.{Born, NotOurs}
-use Rattle.sx_newlog.proofs.Finding.{if_told}
 use Rattle.sx_volume.specs.Images.{Only, IsWithin, Follows, Appends, Cuts, Puts, Elapses, Syncs}
-use Rattle.sx_volume.specs.declared.volume.Volume.{Ghosts}
 
 -- ---- one call
 

@@ -1,5 +1,5 @@
 -- What is read at a place.
-use Rattle.std.proofs.Common.{◌≡◌, ◌∙◌, ℕ, zero, suc, ◌+◌, ◌<◌, ◌≤◌, List, [], ◌∷◌, ◌++◌, length, take, drop, slice_get, slice_index_or, Option, None, Some, IfSome, refl, ap, sym, arith, ⊎_elim}
+use Rattle.std.proofs.Common.{◌≡◌, ◌∙◌, ℕ, zero, suc, ◌<◌, ◌≤◌, List, [], ◌∷◌, length, take, drop, slice_get, slice_index_or, Option, None, Some, IfSome, refl, ap, sym, arith, ⊎_elim}
 use Rattle.sx_newlog.specs.Calls.{OnlyReads}
 use Rattle.sx_volume.specs.declared.volume.Volume.{Ghosts}
 use Rattle.sx_volume.proofs.Images.{elapses_then, elapses_same}

@@ -1,5 +1,5 @@
 -- What calls leave of a volume, at a bound `V: Volume`.
-use Rattle.std.specs.Prelude.{ℕ, ◌≡◌, ◌≤◌, IsTrue, List, IfSome}
+use Rattle.std.specs.Prelude.{◌≡◌, ◌≤◌, IsTrue, IfSome}
 use Rattle.sx_volume.specs.declared.volume.Volume.{Ghosts}
 use Rattle.sx_volume.specs.Images.{Only, IsWithin, Elapses, NoSync}
 

@@ -1,8 +1,7 @@
 -- What opening answers.
-use Rattle.std.specs.Prelude.{ℕ, ◌≡◌, ◌≢◌, ◌+◌, ◌<◌, ◌⊎◌, List, [], ◌∷◌, ◌++◌, length, drop, take, Option, None, Some, IfSome, Result, Ok, Err, slice_get}
+use Rattle.std.specs.Prelude.{ℕ, ◌≡◌, ◌≢◌, ◌<◌, ◌⊎◌, List, ◌∷◌, ◌++◌, length, drop, take, Option, None, Some, IfSome, Result, Ok, Err, slice_get}
 use Rattle.sx_bytes.specs.declared.damage.Damage.{Damage}
 use Rattle.sx_frame.specs.Violation.{Violation, damage_at}
-use Rattle.sx_layout.specs.Birth as layout
 use Rattle.sx_layout.specs.Birth.{AreFields, BirthFields, IsBirth, IsBorn, IsNotOurs, IsUnborn, birth_part, birth_rules, magic, part_bytes}
 use Rattle.sx_layout.specs.Born as born
 use Rattle.sx_layout.specs.Born.{Reading, Reads}

@@ -1,5 +1,5 @@
 -- What is kept in memory of a birth part and of groups.
-use Rattle.std.specs.Prelude.{ℕ, ◌≡◌, ◌+◌, ◌*◌, List, [], ◌∷◌, ◌++◌}
+use Rattle.std.specs.Prelude.{ℕ, ◌≡◌, ◌+◌, ◌*◌, List, [], ◌∷◌}
 use Rattle.sx_layout.specs.Birth as layout
 use Rattle.sx_layout.specs.FrameGroup.{FrameGroup, gate_behind, group_size}
 use Rattle.sx_newlog.specs.declared.log.Birth.{Birth}

@@ -1,5 +1,5 @@
 -- A head that was written is read again.
-use Rattle.std.proofs.Common.{◌≡◌, ◌∙◌, ℕ, ℤ, ◌+◌, ◌^◌, ◌<◌, List, [], ◌∷◌, ◌++◌, length, take, Option, None, Some, refl, ap, sym, arith, lit<, FitsSigned}
+use Rattle.std.proofs.Common.{◌≡◌, ◌∙◌, ℕ, ℤ, ◌^◌, ◌<◌, List, ◌++◌, length, Option, None, Some, refl, ap, sym, arith, lit<, FitsSigned}
 use Rattle.std.specs.Int.{to_be_bytes, cast_unsigned, cast_signed, w32, w64}
 use Rattle.std.proofs.Math.Facts.{Fits-of_z}
 use Rattle.std.proofs.lemmas.Int.{to_z-of_z}

@@ -1,5 +1,5 @@
 -- The fields of a head, appended and read one behind another.
-use Rattle.std.proofs.Common.{◌≡◌, ◌∙◌, ℕ, ◌≤◌, List, ◌++◌, length, take, ap, sym, append_assoc}
+use Rattle.std.proofs.Common.{◌≡◌, ◌∙◌, ℕ, List, ◌++◌, ap, sym, append_assoc}
 use Rattle.std.specs.Int.{cast_unsigned, to_be_bytes, w32, w64}
 use Rattle.sx_root.specs.Root.{mark, root_bytes}
 use Rattle.sx_root.specs.declared.root.RevisionRoot.{RevisionRoot}

@@ -1,5 +1,5 @@
 -- The one spelling of a revision's head.
-use Rattle.std.specs.Prelude.{ℕ, ◌^◌, ◌<◌, FitsSigned, List, [], ◌∷◌, ◌++◌, Option, None, Some, take, Bool, true, false}
+use Rattle.std.specs.Prelude.{ℕ, ◌^◌, ◌<◌, FitsSigned, List, [], ◌∷◌, ◌++◌, Option, None, Some, Bool, true, false}
 use Rattle.std.specs.Int.{to_be_bytes, cast_unsigned, cast_signed, w32, w64}
 use Rattle.std.specs.Str.{bytes_eq}
 use Rattle.sx_bytes.specs.Front.{◌>>=◌, front_number, front_piece}

@@ -1,4 +1,4 @@
-use Rattle.std.proofs.Common.{◌≡◌, ◌∙◌, ◌+◌, List, ℕ, Some, Option, length, sym, subst}
+use Rattle.std.proofs.Common.{◌≡◌, ◌+◌, List, ℕ, Some, Option, length, sym, subst}
 use Rattle.std.specs.Prelude.{slice_get}
 use Rattle.sx_newlog.proofs.Made.{append_shut, same_told, then_images, within_shut}
 use Rattle.sx_newlog.specs.Creating.{StayShut}

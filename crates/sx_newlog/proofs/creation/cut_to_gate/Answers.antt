@@ -1,4 +1,4 @@
-use Rattle.std.proofs.Common.{◌≡◌, ◌∙◌, List, ℕ, Some, arith, rules}
+use Rattle.std.proofs.Common.{◌≡◌, ◌∙◌, List, ℕ, Some, arith}
 use Rattle.std.specs.Prelude.{slice_get}
 use Rattle.sx_newlog.proofs.Made.{cut_bytes, cut_told, one_byte, stay_shut, step_images}
 use Rattle.sx_volume.specs.Images.{Cuts}

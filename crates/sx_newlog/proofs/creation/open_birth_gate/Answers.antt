@@ -1,4 +1,3 @@
-use Rattle.std.proofs.Common.{◌≡◌, ◌∙◌, List, ℕ}
 use Rattle.sx_layout.specs.Born.{StandsForNone}
 use Rattle.sx_newlog.proofs.Made.{part_puts, step_images, then_same}
 use Rattle.sx_volume.specs.Images.{Puts}

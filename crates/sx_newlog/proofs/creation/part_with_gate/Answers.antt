@@ -1,4 +1,4 @@
-use Rattle.std.proofs.Common.{◌≡◌, ◌∙◌, ◌++◌, ap, List, ℕ, sym, rules}
+use Rattle.std.proofs.Common.{◌∙◌, ◌++◌, ap, List, ℕ}
 use Rattle.sha2.specs.Sha256.{sha256}
 use Rattle.sx_layout.specs.Birth.{magic}
 use Rattle.sx_newlog.proofs.Parts.{part_put}

@@ -1,4 +1,4 @@
-use Rattle.std.proofs.Common.{◌≡◌, ◌∙◌, ap, length, List, ℕ, sym, rules, arith}
+use Rattle.std.proofs.Common.{ap, length, List, ℕ}
 use Rattle.sx_newlog.proofs.Parts.{name_put}
 use Rattle.sx_newlog.proofs.creation.put_name.Goals as goal
 

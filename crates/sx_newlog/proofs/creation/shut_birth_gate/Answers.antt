@@ -1,4 +1,4 @@
-use Rattle.std.proofs.Common.{◌≡◌, ◌∙◌, ap, sym, subst, arith, List, ℕ, Option, IfSome}
+use Rattle.std.proofs.Common.{◌≡◌, sym, subst, arith, List, ℕ, Option, IfSome}
 use Rattle.sx_layout.specs.Born.{StandsForNone}
 use Rattle.sx_newlog.proofs.Made.{put_shut, puts_told, read_images, same_told, step_images, still_only, then_images, unborn_told}
 use Rattle.sx_newlog.specs.Creating.{IsShut}

@@ -1,9 +1,8 @@
-use Rattle.std.proofs.Common.{◌≡◌, ◌∙◌, ◌++◌, [], ◌∷◌, List, ℕ, Some, Option, ap, sym, subst}
+use Rattle.std.proofs.Common.{◌≡◌, ◌∙◌, ◌++◌, [], ◌∷◌, List, ℕ, Some, Option, ap}
 use Rattle.std.specs.Arc.{arc_value}
 use Rattle.std.specs.Option.{option_map}
 use Rattle.std.specs.Prelude.{slice_get}
 use Rattle.sx_newlog.proofs.Made.{mapped_then, some_mapped, stay_mapped, then_images, then_same, within_shut}
-use Rattle.sx_newlog.specs.Creating.{StayShut}
 use Rattle.sx_volume.proofs.Images.{elapses_then}
 use Rattle.sx_newlog.proofs.creation.write_part.Goals as goal
 

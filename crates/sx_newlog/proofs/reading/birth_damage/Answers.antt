@@ -1,4 +1,4 @@
-use Rattle.std.proofs.Common.{rules, arith, ◌≡◌, ◌∙◌, ap, sym, None, Some, Option}
+use Rattle.std.proofs.Common.{rules, arith, ◌∙◌, ap, sym, Some, Option}
 use Rattle.std.specs.Option.{option_map}
 use Rattle.sx_frame.specs.Violation.{Violation, damage_at, tell}
 use Rattle.sx_newlog.proofs.Parts.{names_broken, none_broken}

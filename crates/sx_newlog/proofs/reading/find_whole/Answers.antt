@@ -3,7 +3,7 @@ use Rattle.std.specs.Prelude.{◌↔◌, IsTrue}
 use Rattle.sx_newlog.specs.Opening.{HasFront, IsWhole, fields_in}
 use Rattle.sx_layout.specs.Birth.{AreFields}
 use Rattle.sx_newlog.specs.declared.reading.GivenFields.{GivenFields}
-use Rattle.sx_newlog.proofs.Finding.{other_told, born_told, whole_told, odd_told}
+use Rattle.sx_newlog.proofs.Finding.{other_told, whole_told, odd_told}
 use Rattle.sx_newlog.proofs.reading.find_whole.Goals as goal
 
 pub returns-in_default-clause-found : goal.returns-in_default-clause-found

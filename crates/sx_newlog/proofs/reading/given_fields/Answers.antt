@@ -1,4 +1,4 @@
-use Rattle.std.proofs.Common.{◌≡◌, ◌∙◌, ◌++◌, ap, sym, List, ℕ, take, length}
+use Rattle.std.proofs.Common.{◌≡◌, ◌∙◌, ◌++◌, ap, sym, List, ℕ, take}
 use Rattle.std.proofs.lemmas.List.{take_at}
 use Rattle.sx_frame.proofs.Differ.{differ, same}
 use Rattle.sx_layout.specs.Birth.{BirthFields, magic}

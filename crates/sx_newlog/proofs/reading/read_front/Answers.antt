@@ -1,4 +1,4 @@
-use Rattle.std.proofs.Common.{rules, arith, drop, take, length, subst, MatchOption, ◌≡◌, ◌≢◌, List, ℕ}
+use Rattle.std.proofs.Common.{arith, drop, take, length, subst, MatchOption, ◌≡◌, ◌≢◌, List, ℕ}
 use Rattle.std.proofs.lemmas.List.{take_all, length-drop}
 use Rattle.sx_layout.specs.Birth.{magic, part_bytes}
 use Rattle.sx_newlog.specs.Opening.{fields_in}

@@ -1,6 +1,6 @@
-use Rattle.std.proofs.Common.{rules, ◌≡◌, ◌∙◌, ◌++◌, List, ℕ, length, take, ap, sym, arith, inl, refl, to_z, of_z, w64}
+use Rattle.std.proofs.Common.{rules, ◌≡◌, ◌∙◌, ◌++◌, ap, sym, to_z, of_z, w64}
 use Rattle.std.proofs.lemmas.Int.{to_z-of_z}
-use Rattle.std.specs.Int.{to_be_bytes, cast_unsigned, cast_signed}
+use Rattle.std.specs.Int.{to_be_bytes, cast_unsigned}
 use Rattle.sx_root.proofs.Fields.{read_root}
 use Rattle.sx_root.specs.Root.{mark}
 use Rattle.sx_root.specs.declared.root.RevisionRoot.{RevisionRoot}

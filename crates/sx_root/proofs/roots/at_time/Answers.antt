@@ -1,4 +1,4 @@
-use Rattle.std.proofs.Common.{rules, Bool, true, refl, ap, not, ◌∙◌, sym, subst, false, ℤ, FitsSigned, ◌≡◌, ℕ, ◌+◌, ◌-◌, ◌/◌, ◌<◌, ◌≤◌, length, arith, ◌≤ℤ◌, ◌<ℤ◌, to_z, of_z, w64}
+use Rattle.std.proofs.Common.{rules, Bool, true, refl, ap, not, ◌∙◌, sym, subst, false, ℤ, FitsSigned, ◌≡◌, ◌+◌, ◌-◌, ◌/◌, arith, ◌≤ℤ◌, ◌<ℤ◌, to_z, of_z, w64}
 use Rattle.std.proofs.lemmas.Int.{ints}
 use lib.Signed.{le_z, lt_z, lt_z_yes, lt_z_no}
 use Rattle.std.proofs.lemmas.Int.{to_z-of_z}

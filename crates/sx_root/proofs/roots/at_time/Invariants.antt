@@ -1,4 +1,4 @@
-use Rattle.std.proofs.Common.{ℕ, ◌≡◌, ◌+◌, ◌<◌, ◌≤◌, length, ◌≤ℤ◌, ◌<ℤ◌}
+use Rattle.std.proofs.Common.{ℕ, ◌+◌, ◌<◌, ◌≤◌, length, ◌≤ℤ◌, ◌<ℤ◌}
 use Rattle.sx_root.specs.Times.{time_of}
 use Rattle.sx_root.proofs.roots.at_time.Given as goal
 

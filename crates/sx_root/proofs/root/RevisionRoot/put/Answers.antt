@@ -1,4 +1,4 @@
-use Rattle.std.proofs.Common.{rules, ◌≡◌, ◌∙◌, ◌++◌, List, ℕ, ap, Result, Ok, Err, OnOk, FitsSigned}
+use Rattle.std.proofs.Common.{rules, ◌∙◌, ◌++◌, ap, Result, Ok, Err, OnOk, FitsSigned}
 use Rattle.std.proofs.lemmas.Int.{to_z-of_z}
 use Rattle.std.specs.Int.{cast_unsigned, to_be_bytes, w64}
 use Rattle.sx_root.proofs.Fields.{put_root}

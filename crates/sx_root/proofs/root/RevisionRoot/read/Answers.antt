@@ -1,5 +1,4 @@
-use Rattle.std.proofs.Common.{◌≡◌, ◌∙◌, List, ℕ, None, Some, sym, ap}
-use Rattle.sx_bytes.specs.Front.{Gives}
+use Rattle.std.proofs.Common.{◌∙◌, None, Some}
 use Rattle.sx_root.proofs.Again.{read_again}
 use Rattle.sx_root.proofs.root.RevisionRoot.read.Goals as goal
 
