@@ -1,3 +1,4 @@
+mod Fused
 pub mod Grown
 mod Image
 pub mod Images

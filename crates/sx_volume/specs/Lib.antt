@@ -1,6 +1,7 @@
 pub mod Change
 pub mod Content
 pub mod Counts
+pub mod Fuse
 pub mod Held
 pub mod Images
 pub mod Kept

@@ -5,12 +5,13 @@
 //!
 //! What a crash may leave is told by two tests of a list of bytes, of now and of all moments since one, and each call
 //! says how they go on. `MemVolume` keeps its bytes in memory with a record of its calls, from which both tests follow,
-//! and fails where it is told to.
+//! and fails where it is told to. `FuseVolume` passes so many calls on to one and then fails each.
 #![tactic(auto)]
 
 mod content;
 mod counter;
 mod end;
+mod fuse_volume;
 mod held_piece;
 mod mem_end;
 mod mem_file;
@@ -20,6 +21,7 @@ mod spot;
 mod volume;
 
 pub use end::ReadEnd;
+pub use fuse_volume::FuseVolume;
 pub use held_piece::{HeldPiece, range_of};
 pub use mem_end::MemEnd;
 pub use mem_file::MemFile;

@@ -1,0 +1,2 @@
+pub mod Violation
+pub mod Frame

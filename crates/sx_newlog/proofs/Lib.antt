@@ -1,0 +1,4 @@
+pub mod Placed
+pub mod Parts
+pub mod Finding
+pub mod Made

@@ -1,0 +1,5 @@
+pub mod Room
+pub mod Calls
+pub mod Shown
+pub mod Opening
+pub mod Creating

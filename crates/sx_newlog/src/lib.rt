@@ -1,0 +1,14 @@
+//! The log on a volume: a birth part, and groups of frames behind it, one a commit, each behind a gate that is opened when the
+//! group is safe.
+#![tactic(auto)]
+
+mod creation;
+mod fault;
+mod limits;
+mod log;
+mod reading;
+
+pub use creation::create;
+pub use fault::{LogFault, RoomFault};
+pub use limits::room;
+pub use log::{Birth, GroupRow, Groups, Log};
