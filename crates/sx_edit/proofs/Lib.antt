@@ -1,0 +1,6 @@
+pub mod Results
+pub mod Going
+mod Finding
+mod Shifts
+pub mod Climbing
+pub mod Failing

@@ -1,0 +1,4 @@
+pub mod Damage
+pub mod Holes
+pub mod Told
+pub mod Steps
