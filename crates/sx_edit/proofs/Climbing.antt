@@ -114,8 +114,8 @@ turned_there o n r there = λ m e. sym (there m e)
 pub lifted-more : (node : Option ℕ) (n plus minus d : ℕ) (r s : NodeRecord) (before after last : Moment) → node ≡ Some n → IsRaised n plus minus d r s before after
     → IsLifted r.parent plus minus (d * 257 % 2 ^ 128) after last → IsLifted node plus minus d before last
 unfolding IsLifted
-lifted-more node n plus minus d r s before after last is raised rest local number [] a b hole new up shift alike holds = absurd cc
-lifted-more node n plus minus d r s before after last is raised rest local number (frame ∷ frames) a b hole new up shift alike holds =
+lifted-more at n plus minus d r s before after last is raised rest local number [] a b hole new up shift alike holds = absurd cc
+lifted-more at n plus minus d r s before after last is raised rest local number (frame ∷ frames) a b hole new up shift alike holds =
     let same : n ≡ frame.node.number = cc in
     let there : ForSome before.told (λ m. Some r ≡ fin.get m frame.node.number) = rw same at (turned_there before.told n r raised.there) in
     let put : option_map (λ m. fin.insert m frame.node.number s) before.told ≡ after.told = rw same at (sym raised.put) in

@@ -32,14 +32,14 @@ known n o found local number frames frame a hole there new same holds =
 
 pub cannot-deeper : (node : Option ℕ) (n plus minus levels : ℕ) (o : Option (RecordMap NodeRecord)) → node ≡ Some n → levels ≡ 0 → CannotLift node plus minus levels o
 unfolding CannotLift
-cannot-deeper node n plus minus levels o is none local number [] a hole new up deep room enough holds = absurd cc
-cannot-deeper node n plus minus levels o is none local number (frame ∷ frames) a hole new up deep room enough holds = omega arith
+cannot-deeper at n plus minus levels o is none local number [] a hole new up deep room enough holds = absurd cc
+cannot-deeper at n plus minus levels o is none local number (frame ∷ frames) a hole new up deep room enough holds = omega arith
 
 pub cannot-absent : (node : Option ℕ) (n plus minus levels : ℕ) (o : Option (RecordMap NodeRecord)) → node ≡ Some n
     → ForSome o (λ m. fin.get m n ≡ None) → CannotLift node plus minus levels o
 unfolding CannotLift
-cannot-absent node n plus minus levels o is there local number [] a hole new up deep room enough holds = absurd cc
-cannot-absent node n plus minus levels o is there local number (frame ∷ frames) a hole new up deep room enough holds =
+cannot-absent at n plus minus levels o is there local number [] a hole new up deep room enough holds = absurd cc
+cannot-absent at n plus minus levels o is there local number (frame ∷ frames) a hole new up deep room enough holds =
     let same : frame.node.number ≡ n = cc in
     let row = known n o None local number frames frame a hole there new same holds in
     absurd cc
@@ -47,8 +47,8 @@ cannot-absent node n plus minus levels o is there local number (frame ∷ frames
 pub cannot-count : (node : Option ℕ) (n plus minus levels : ℕ) (o : Option (RecordMap NodeRecord)) (r : NodeRecord) → node ≡ Some n
     → ForSome o (λ m. fin.get m n ≡ Some r) → (r.descendants + plus < 2 ^ 32 → minus ≤ r.descendants + plus → ⊥) → CannotLift node plus minus levels o
 unfolding CannotLift
-cannot-count node n plus minus levels o r is there wrong local number [] a hole new up deep room enough holds = absurd cc
-cannot-count node n plus minus levels o r is there wrong local number (frame ∷ frames) a hole new up deep room enough holds =
+cannot-count at n plus minus levels o r is there wrong local number [] a hole new up deep room enough holds = absurd cc
+cannot-count at n plus minus levels o r is there wrong local number (frame ∷ frames) a hole new up deep room enough holds =
     let same : frame.node.number ≡ n = cc in
     let row = some_is _ _ (known n o (Some r) local number frames frame a hole there new same holds) in
     let count : r.descendants ≡ a.nodes = ap (λ w. w.descendants) row in
@@ -58,8 +58,8 @@ cannot-count node n plus minus levels o r is there wrong local number (frame ∷
 pub cannot-above : (node : Option ℕ) (n plus minus levels fewer d : ℕ) (r s : NodeRecord) (before after : Moment) → node ≡ Some n → IsRaised n plus minus d r s before after
     → levels - 1 ≡ fewer → CannotLift r.parent plus minus fewer after.told → CannotLift node plus minus levels before.told
 unfolding CannotLift
-cannot-above node n plus minus levels fewer d r s before after is raised one_less rest local number [] a hole new up deep room enough holds = absurd cc
-cannot-above node n plus minus levels fewer d r s before after is raised one_less rest local number (frame ∷ frames) a hole new up deep room enough holds =
+cannot-above at n plus minus levels fewer d r s before after is raised one_less rest local number [] a hole new up deep room enough holds = absurd cc
+cannot-above at n plus minus levels fewer d r s before after is raised one_less rest local number (frame ∷ frames) a hole new up deep room enough holds =
     let same : frame.node.number ≡ n = cc in
     let row = some_is _ _ (known n before.told (Some r) local number frames frame a hole raised.there new same holds) in
     let b : Shown = record a { nodes = a.nodes + plus - minus; hashes = a.hashes + d } in

@@ -4,3 +4,6 @@ mod Finding
 mod Shifts
 pub mod Climbing
 pub mod Failing
+pub mod Showing
+pub mod Standing
+pub mod Relabeling

@@ -22,7 +22,7 @@ node_hash M l s t d e is more =
     ∙ sym (mod-add-mod (l + 257 * s) M (257 * d)) ∙ sym (add-mod-mod ((l + 257 * s) % M) (257 * d) M) ∙ ap (λ z. ((l + 257 * s) % M + z) % M) (sym more)
 
 -- a hash that grew by e among others
-hash_among : (M x y h k e : ℕ) → k ≡ (h + e) % M → (x + (k + y)) % M ≡ (x + (h + y) + e) % M
+pub hash_among : (M x y h k e : ℕ) → k ≡ (h + e) % M → (x + (k + y)) % M ≡ (x + (h + y) + e) % M
 hash_among M x y h k e is =
     let before : x + (k + y) ≡ (h + e) % M + (x + y) = omega arith in
     let after : h + e + (x + y) ≡ x + (h + y) + e = omega arith in

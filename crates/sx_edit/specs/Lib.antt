@@ -1,4 +1,5 @@
 pub mod Damage
+pub mod Edited
 pub mod Holes
 pub mod Told
 pub mod Steps

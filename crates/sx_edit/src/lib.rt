@@ -2,5 +2,7 @@
 #![tactic(auto)]
 
 mod damage;
+mod label;
 mod lift;
 mod reads;
+mod relabel;
