@@ -7,3 +7,4 @@ pub mod Failing
 pub mod Showing
 pub mod Standing
 pub mod Relabeling
+pub mod Seeking

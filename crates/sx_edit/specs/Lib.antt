@@ -1,4 +1,6 @@
+pub mod Answers
 pub mod Damage
+pub mod EditFault
 pub mod Edited
 pub mod Holes
 pub mod Told

@@ -2,7 +2,10 @@
 #![tactic(auto)]
 
 mod damage;
+mod fault;
 mod label;
 mod lift;
 mod reads;
 mod relabel;
+
+pub use fault::EditFault;
