@@ -8,3 +8,6 @@ pub mod Showing
 pub mod Standing
 pub mod Relabeling
 pub mod Seeking
+pub mod Looking
+pub mod Answering
+pub mod SettingScalars

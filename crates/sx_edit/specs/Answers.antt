@@ -1,5 +1,5 @@
 -- What an edit answers over the records of a state.
-use Rattle.std.specs.Prelude.{◌≡◌, ℕ, ◌≤◌, ◌<◌, All, Option, Result, Ok, Err}
+use Rattle.std.specs.Prelude.{◌≡◌, ℕ, ◌+◌, ◌≤◌, ◌<◌, All, Option, Some, Result, Ok, Err, length}
 use Rattle.sx_tree.specs.declared.edit.Edited.{Edited}
 use Rattle.sx_tree.specs.declared.edit.EditRefusal.{EditRefusal}
 use Rattle.sx_tree.specs.declared.edit.EditRefusal.TheVariants.{PathsSpent}
@@ -7,7 +7,7 @@ use Rattle.sx_tree.specs.declared.record.NodeRecord.{NodeRecord}
 use Rattle.sx_view.specs.Records.{RecordMap}
 use Rattle.sx_model.specs.Edit.{Edit, apply, told_of}
 use Rattle.sx_model.specs.State.{State}
-use Rattle.sx_model.specs.Tree.{IsWellFormed, numbers, size}
+use Rattle.sx_model.specs.Tree.{IsWellFormed, Spot, numbers, size, spot}
 use Rattle.sx_edit.specs.declared.fault.EditFault.{EditFault}
 use Rattle.sx_edit.specs.declared.fault.EditFault.TheVariants.{Refused, Failed, Damaged, OutOfMemory}
 use Rattle.sx_edit.specs.Told.{Holds}
@@ -37,3 +37,7 @@ Answers edit state after (Err OutOfMemory) = Unit {0}
 -- The same of every state whose records these were.
 unfoldable pub AnswersEach : Edit → ℕ → Option (RecordMap NodeRecord) → Option (RecordMap NodeRecord) → Result Edited EditFault → Type 0
 AnswersEach edit next before after result = (state : State) → AreOf state next before → HasPaths edit state → Answers edit state after result
+
+-- Over the records of a state so many gets were made at most: one of the node, and one of each node above it.
+unfoldable pub GetsFew : ℕ → ℕ → Option (RecordMap NodeRecord) → ℕ → ℕ → Type 0
+GetsFew k next before old new = (state : State) → AreOf state next before → (q : Spot) → spot k state.trees ≡ Some q → new ≤ old + (length q.above + 1)

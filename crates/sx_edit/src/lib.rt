@@ -3,9 +3,11 @@
 
 mod damage;
 mod fault;
+mod kinds;
 mod label;
 mod lift;
 mod reads;
 mod relabel;
+mod set_scalar;
 
 pub use fault::EditFault;
