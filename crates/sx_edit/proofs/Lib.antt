@@ -11,3 +11,4 @@ pub mod Seeking
 pub mod Looking
 pub mod Answering
 pub mod SettingScalars
+pub mod Clearing

@@ -1,4 +1,5 @@
 pub mod Answers
+pub mod Clear
 pub mod Damage
 pub mod EditFault
 pub mod Edited

@@ -9,7 +9,7 @@ use Rattle.sx_tree.specs.declared.record.Step.{Step}
 use Rattle.sx_tree.specs.declared.record.NodeRecord.{NodeRecord}
 use Rattle.sx_view.specs.Records.{RecordMap}
 use Rattle.sx_view.specs.Rows.{row_of}
-use Rattle.sx_model.specs.Tree.{Forest}
+use Rattle.sx_model.specs.Tree.{Forest, size}
 use Rattle.sx_model.specs.Records.{NodeRow, Around, first_of, rows}
 use Rattle.sx_model.specs.Holes.{Frame, Shown}
 use Rattle.sx_edit.specs.Holes.{AreNew, above, IsShift, IsAlike, top_shown, whole}
@@ -31,18 +31,42 @@ pub record Shows (o : Option (RecordMap NodeRecord)) (entries : List (ℕ × Nod
   pub holds : Holds o entries
   pub distinct : AreDistinct (numbers_of entries)
 
--- The row of the node is another now, and all else is as it was.
+-- The row of the node is another now, and all else is as it was. Where nothing is told afterwards, there was no such row.
 unfoldable pub IsChanged : Option ℕ → (NodeRow → NodeRow) → Option (RecordMap NodeRecord) → Option (RecordMap NodeRecord) → Type 0
 IsChanged None change before after = (entries : List (ℕ × NodeRow)) → Shows before entries → Shows after entries
 IsChanged (Some k) change before after =
     (xs ys : List (ℕ × NodeRow)) (w : NodeRow) → Shows before (xs ++ (k, w) ∷ ys) → Shows after (xs ++ (k, change w) ∷ ys)
 
--- The trees from this node on to the right are gone, and all else is as it was.
-unfoldable pub IsDropped : Option ℕ → Option (RecordMap NodeRecord) → Option (RecordMap NodeRecord) → Type 0
-IsDropped first before after =
-    (local : Kind → List ℕ → ℕ) (number : List Step → ℕ) (around : Around) (trees : Forest) (xs ys : List (ℕ × NodeRow))
-    → first_of trees ≡ first → around.right ≡ None
-    → Shows before (xs ++ (rows local number around trees ++ ys)) → Shows after (xs ++ ys)
+-- ---- trees that go
+
+-- trees side by side, and what stands around them
+abbrev pub Piece : Type 0
+Piece = Around × Forest
+
+-- each of the pieces begins with its number, and nothing stands to its right
+abbrev pub BeginWith : List Piece → List ℕ → Type 0
+BeginWith [] [] = Unit {0}
+BeginWith [] (k ∷ ks) = ⊥
+BeginWith (piece ∷ pieces) [] = ⊥
+BeginWith (piece ∷ pieces) (k ∷ ks) = (first_of piece.1 ≡ Some k) × (piece.0.right ≡ None) × BeginWith pieces ks
+
+abbrev pub sizes : List Piece → ℕ
+sizes [] = 0
+sizes (piece ∷ pieces) = size piece.1 + sizes pieces
+
+abbrev pub piece_rows : (Kind → List ℕ → ℕ) → (List Step → ℕ) → List Piece → List (ℕ × NodeRow)
+piece_rows local number [] = []
+piece_rows local number (piece ∷ pieces) = rows local number piece.0 piece.1 ++ piece_rows local number pieces
+
+-- The trees that begin with these numbers are gone, where they have so many nodes at most, and all else is as it was. Where
+-- nothing is told afterwards, there were no such trees.
+unfoldable pub IsCleared : List ℕ → ℕ → Option (RecordMap NodeRecord) → Option (RecordMap NodeRecord) → Type 0
+IsCleared tops limit before after =
+    (local : Kind → List ℕ → ℕ) (number : List Step → ℕ) (pieces : List Piece) (xs ys : List (ℕ × NodeRow))
+    → BeginWith pieces tops → sizes pieces ≤ limit
+    → Shows before (xs ++ (piece_rows local number pieces ++ ys)) → Shows after (xs ++ ys)
+
+-- ---- the walk along the ancestors
 
 -- what records tell, and how many gets were made of them
 pub record Moment : Type 0 where

@@ -1,6 +1,7 @@
 //! Edits of a document over its records, in place.
 #![tactic(auto)]
 
+mod clear;
 mod damage;
 mod fault;
 mod kinds;
