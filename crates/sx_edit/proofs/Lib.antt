@@ -12,3 +12,6 @@ pub mod Looking
 pub mod Answering
 pub mod SettingScalars
 pub mod Clearing
+pub mod Siblings
+pub mod Refilling
+pub mod Mending

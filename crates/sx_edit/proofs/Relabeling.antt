@@ -131,8 +131,11 @@ relabel-possible k kind label d limit r s old mid there renewed put room cannot 
     let all : (top_shown local_hash frames (shown local_hash inside)).nodes ≡ size (plug frames inside) = ap (λ (w : Shown). w.nodes) (top_shown-plug local_hash frames inside) in
     cannot local_hash no_path frames (shown local_hash inside) _ half.new half.up (omega arith) (omega arith) (omega arith) half.shows.holds
 
--- two hashes, the second more by their difference
-pub difference : (old new l k : ℕ) → old ≡ l → new ≡ k → old ≤ 2 ^ 128 → k % 2 ^ 128 ≡ (l + (new + (2 ^ 128 - old)) % 2 ^ 128) % 2 ^ 128
-difference old new l k old_is new_is fits =
+-- a sum of hashes in which one took the place of another
+pub difference_of : (old new l k : ℕ) → k + old ≡ l + new → old ≤ 2 ^ 128 → k % 2 ^ 128 ≡ (l + (new + (2 ^ 128 - old)) % 2 ^ 128) % 2 ^ 128
+difference_of old new l k is fits =
     let all : l + (new + (2 ^ 128 - old)) ≡ k + 2 ^ 128 = omega arith in
     sym (add-mod-mod l (new + (2 ^ 128 - old)) (2 ^ 128) ∙ ap (λ z. z % 2 ^ 128) all ∙ sym (add-mod-mod k (2 ^ 128) (2 ^ 128)) ∙ ap (λ z. z % 2 ^ 128) (add-zero k))
+
+pub difference : (old new l k : ℕ) → old ≡ l → new ≡ k → old ≤ 2 ^ 128 → k % 2 ^ 128 ≡ (l + (new + (2 ^ 128 - old)) % 2 ^ 128) % 2 ^ 128
+difference old new l k old_is new_is fits = difference_of old new l k (omega arith) fits

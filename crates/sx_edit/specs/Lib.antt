@@ -4,5 +4,6 @@ pub mod Damage
 pub mod EditFault
 pub mod Edited
 pub mod Holes
+pub mod Mend
 pub mod Told
 pub mod Steps

@@ -7,8 +7,10 @@ mod fault;
 mod kinds;
 mod label;
 mod lift;
+mod mend;
 mod reads;
 mod relabel;
 mod set_scalar;
+mod trees;
 
 pub use fault::EditFault;

@@ -23,7 +23,7 @@ pub(crate) struct Shift {
 }
 
 /// The count less so many, where it is at least that and fits.
-fn fitting(count: u64, minus: u32) -> Option<u32>
+pub(crate) fn fitting(count: u64, minus: u32) -> Option<u32>
     ensures some { IfSome result (λ n. (n ≡ count - minus) × (minus ≤ count)) }
     ensures none { IfNone result (minus ≤ count → count < 2 ^ 32 → ⊥) }
 {
