@@ -1,5 +1,5 @@
 -- What each answer of an edit says of a state.
-use Rattle.std.proofs.Common.{◌≡◌, ℕ, ◌+◌, ◌≤◌, Bool, true, false, List, [], ◌∷◌, Option, Some, None, refl, sym, ap, subst, ◌∙◌, arith}
+use Rattle.std.proofs.Common.{◌≡◌, ℕ, ◌+◌, ◌≤◌, Bool, true, false, List, [], ◌∷◌, Option, Some, None, refl, sym, ap, subst, inr, ◌∙◌, arith}
 use Rattle.std.specs.Prelude.{Result, Ok, Err, IfErr, IsErrAnd}
 use Rattle.std.specs.Option.{ForSome}
 use Rattle.std.specs.FinMap as fin
@@ -16,7 +16,7 @@ use Rattle.sx_model.specs.State.{State}
 use Rattle.sx_model.specs.Tree.{Spot, spot}
 use Rattle.sx_edit.specs.declared.fault.EditFault.{EditFault}
 use Rattle.sx_edit.specs.declared.fault.EditFault.TheVariants.{Refused, Failed, Damaged, OutOfMemory}
-use Rattle.sx_edit.specs.Damage.{Explains, IsDamage, IsDamaged}
+use Rattle.sx_edit.specs.Damage.{Explains, IsBreachFault, IsDamage, IsDamaged}
 use Rattle.sx_edit.specs.EditFault.{edit_fault, ExplainsEdit}
 use Rattle.sx_edit.specs.Steps.{GoesOn}
 use Rattle.sx_edit.specs.Answers.{AreOf, Answers, AnswersEach}
@@ -48,6 +48,13 @@ pub memory-answers : (edit : Edit) (next : ℕ) (before after : Option (RecordMa
 unfolding AnswersEach
 memory-answers edit next before after (Ok x) is = absurd is
 memory-answers edit next before after (Err e) is = λ state are paths. subst (λ x. Answers edit state after (Err x)) (sym is) tt
+
+pub breach-explains_edit : {T : Type 0} (next : ℕ) (told : Option T) (rose : Type 0) (r : Result Edited EditFault) (fault : Fault) → IsErrAnd r (λ e. e ≡ edit_fault fault)
+    → IsBreachFault next fault → IfErr r (ExplainsEdit next told rose)
+breach-explains_edit next told rose (Ok x) fault is breach = absurd is
+breach-explains_edit next told rose (Err e) reading.Failed is breach = absurd breach
+breach-explains_edit next told rose (Err e) (reading.Damaged d) is breach = subst (ExplainsEdit next told rose) (sym is) (inr breach)
+breach-explains_edit next told rose (Err e) reading.OutOfMemory is breach = absurd breach
 
 module _ {V T : Type 0} (told : V → Option T) (faults : V → ℕ) (has_mark : V → Bool) (marks : V → V → Type 0) where
   fault_explains : (next : ℕ) (a b c : V) (fault : Fault) → GoesOn told faults has_mark marks a b

@@ -1,5 +1,5 @@
 -- Trees taken away, one node after the other.
-use Rattle.std.proofs.Common.{◌≡◌, ℕ, suc, ◌+◌, ◌-◌, ◌≤◌, List, [], ◌∷◌, ◌++◌, Option, Some, None, refl, sym, ap, subst, ◌∙◌, arith, append_assoc}
+use Rattle.std.proofs.Common.{◌≡◌, ℕ, suc, ◌+◌, ◌-◌, ◌≤◌, List, [], ◌∷◌, ◌++◌, Option, Some, None, refl, sym, ap, subst, ◌∙◌, arith, append_assoc, append-nil}
 use Rattle.std.specs.Prelude.{option_map, map, IfSome}
 use Rattle.std.specs.Option.{option_or, ForSome}
 use Rattle.std.specs.FinMap as fin
@@ -15,7 +15,8 @@ use Rattle.sx_edit.specs.Told.{Shows, Piece, BeginWith, sizes, piece_rows, IsCle
 use Rattle.std.specs.Option.{option_to_list}
 use Rattle.std.proofs.lemmas.List.{reverse-append}
 use Rattle.sx_edit.specs.declared.clear.Link.{Link}
-use Rattle.sx_edit.specs.Clear.{tops_of, with_top}
+use Rattle.sx_edit.specs.Clear.{first_tops, tops_of, with_top}
+use Rattle.sx_edit.specs.Mend.{IsTakenOut}
 use Rattle.sx_edit.proofs.Climbing.{some_is}
 use Rattle.sx_edit.proofs.Showing.{shows-get, shows-drop}
 
@@ -113,3 +114,18 @@ cleared-step all left k limit fewer ks r o now after is there one_less left_is g
 
 pub cleared-stopped : (all : List ℕ) (k limit : ℕ) (ks : List ℕ) (o : Option (RecordMap NodeRecord)) → all ≡ k ∷ ks → limit ≡ 0 → IsCleared all limit o None
 cleared-stopped all k limit ks o is none = rw (is, none) (cleared-endless k ks o)
+
+pub taken-out : (k : ℕ) (first : Option ℕ) (limit : ℕ) (o mid after : Option (RecordMap NodeRecord)) → IsCleared (first_tops first) limit o mid
+    → after ≡ option_map (λ m. fin.remove m k) mid → IsTakenOut k first limit o after
+unfolding IsCleared IsTakenOut
+taken-out k first limit o mid after cleared gone local number around below w xs ys first_is last few shows =
+    let pieces : List Piece = with_piece around below [] in
+    let begin = subst (λ f. BeginWith pieces (first_tops f)) first_is (begin-with_piece around below [] [] last tt) in
+    let many : sizes pieces ≡ size below + 0 = sizes-with_piece around below [] in
+    let rows_are : piece_rows local number pieces ≡ rows local number around below = rows-with_piece local number around below [] ∙ append-nil (rows local number around below) in
+    let pushed : xs ++ (k, w) ∷ (rows local number around below ++ ys) ≡ (xs ++ (k, w) ∷ []) ++ (piece_rows local number pieces ++ ys) =
+    (let e : xs ++ (k, w) ∷ (rows local number around below ++ ys) ≡ (xs ++ (k, w) ∷ []) ++ (rows local number around below ++ ys) = simp append_assoc in e)
+    ∙ ap (λ l. (xs ++ (k, w) ∷ []) ++ (l ++ ys)) (sym rows_are) in
+    let popped : (xs ++ (k, w) ∷ []) ++ ys ≡ xs ++ (k, w) ∷ ys = simp append_assoc in
+    let shows_mid : Shows mid (xs ++ (k, w) ∷ ys) = subst (Shows mid) popped (cleared local number pieces (xs ++ (k, w) ∷ []) ys begin (omega arith) (subst (Shows o) pushed shows)) in
+    rw gone (shows-drop mid xs ys k w shows_mid)

@@ -15,3 +15,4 @@ pub mod Clearing
 pub mod Siblings
 pub mod Refilling
 pub mod Mending
+pub mod Splicing

@@ -47,3 +47,8 @@ abbrev pub IsDamaged : Fault → Type 0
 IsDamaged Failed = ⊥
 IsDamaged (Damaged damage) = Unit {0}
 IsDamaged OutOfMemory = ⊥
+
+abbrev pub IsBreachFault : ℕ → Fault → Type 0
+IsBreachFault next Failed = ⊥
+IsBreachFault next (Damaged damage) = IsBreach next damage
+IsBreachFault next OutOfMemory = ⊥

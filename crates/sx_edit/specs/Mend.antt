@@ -80,3 +80,11 @@ IsMended next gap old new o after =
     → size (plug (frame ∷ frames) (beside before (beside olds behind))) ≤ next → next + nodes_of_tree new < 2 ^ 31
     → Shows o (opened local number frames frame before olds news behind)
     → Shows after (rows local number at_top (plug (frame ∷ frames) (beside before (beside news behind))))
+
+-- The rows of the node and of the trees below it, which begin with this one, are gone, and all else is as it was. Where nothing is
+-- told afterwards, there were no such rows.
+unfoldable pub IsTakenOut : ℕ → Option ℕ → ℕ → Option (RecordMap NodeRecord) → Option (RecordMap NodeRecord) → Type 0
+IsTakenOut k first limit before after =
+    (local : Kind → List ℕ → ℕ) (number : List Step → ℕ) (around : Around) (below : Forest) (w : NodeRow) (xs ys : List (ℕ × NodeRow))
+    → first_of below ≡ first → around.right ≡ None → size below ≤ limit
+    → Shows before (xs ++ (k, w) ∷ (rows local number around below ++ ys)) → Shows after (xs ++ ys)

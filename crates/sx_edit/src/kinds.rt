@@ -13,3 +13,10 @@ pub(crate) fn is_scalar(kind: Kind) -> bool
         Kind::Document | Kind::Object | Kind::Array | Kind::Key => false,
     }
 }
+
+/// Whether the kind is that of keys.
+pub(crate) fn is_key(kind: Kind) -> bool
+    ensures { result ≡ tree.is_key kind }
+{
+    matches!(kind, Kind::Key)
+}

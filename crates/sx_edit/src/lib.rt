@@ -10,6 +10,7 @@ mod lift;
 mod mend;
 mod reads;
 mod relabel;
+mod remove;
 mod set_scalar;
 mod trees;
 

@@ -68,6 +68,7 @@ fn adopt<N: RecordsMut<NodeRecord>>(
     old: Option<Tree>,
     new: Option<Tree>,
 ) -> Result<(), Fault>
+    requires { IsLink (number_of_tree new) }
     ensures done { OnOk result (IsAdopted gap.parent (trees_of_tree new) (trees_of_tree old) (adopted gap old new) (N.told nodes.old) (N.told nodes.new)) }
     ensures cannot { IfErr result (λ fault. IsDamaged fault → IsAdopted gap.parent (trees_of_tree new) (trees_of_tree old) (adopted gap old new) (N.told nodes.old) None) }
     ensures goes_on { GoesOn N.told N.faults N.has_mark N.marks nodes.old nodes.new }
@@ -106,7 +107,8 @@ fn count_of(tree: Option<Tree>) -> u32
 
 /// The tree's node, where there is a tree, else the other one.
 fn next_to(tree: Option<Tree>, other: Option<u32>) -> Option<u32>
-    requires { IsLink other }
+    requires tree_fits { IsLink (number_of_tree tree) }
+    requires other_fits { IsLink other }
     ensures is { result ≡ option_or (number_of_tree tree) other }
     ensures fits { IsLink result }
 {
@@ -141,6 +143,7 @@ pub(crate) fn mend<N: RecordsMut<NodeRecord>>(
     old: Option<Tree>,
     new: Option<Tree>,
 ) -> Result<(), Fault>
+    requires { IsLink (number_of_tree new) }
     ensures done { OnOk result (IsMended next gap old new (N.told nodes.old) (N.told nodes.new)) }
     ensures cannot { IfErr result (λ fault. IsDamaged fault → IsMended next gap old new (N.told nodes.old) None) }
     ensures goes_on { GoesOn N.told N.faults N.has_mark N.marks nodes.old nodes.new }

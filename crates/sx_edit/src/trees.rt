@@ -11,7 +11,6 @@ pub(crate) struct Tree {
     pub(crate) nodes: u32,
     /// The hash of its node.
     pub(crate) hash: u128,
-    ghost number_fits: { number < 1_073_741_824 },
     ghost hash_fits: { hash < 2 ^ 128 },
 }
 
