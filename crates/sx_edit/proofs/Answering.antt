@@ -1,6 +1,6 @@
 -- What each answer of an edit says of a state.
 use Rattle.std.proofs.Common.{◌≡◌, ℕ, ◌+◌, ◌≤◌, Bool, true, false, List, [], ◌∷◌, Option, Some, None, refl, sym, ap, subst, inr, ◌∙◌, arith}
-use Rattle.std.specs.Prelude.{Result, Ok, Err, IfErr, IsErrAnd}
+use Rattle.std.specs.Prelude.{Result, Ok, Err, IfErr, IsErrAnd, OnOk}
 use Rattle.std.specs.Option.{ForSome}
 use Rattle.std.specs.FinMap as fin
 use Rattle.sx_outside.specs.Faults.{Rose}
@@ -86,3 +86,20 @@ no-node k make state next o there is none are = go (look k state next o there ar
     go : Looked k state o there → if_there k make (spot k state.trees) ≡ Err (NoNode k)
     go (nowhere e no_spot) = ap (if_there k make) no_spot
     go (somewhere r e seen) = absurd cc
+
+-- what was done is kept, and what was not is undone
+pub settled-answers : (edit : Edit) (next : ℕ) (before begun worked after : Option (RecordMap NodeRecord)) (result outcome : Result Edited EditFault)
+    → begun ≡ before → result ≡ outcome → OnOk result (after ≡ worked) → AnswersEach edit next begun worked outcome → AnswersEach edit next before after result
+unfolding AnswersEach
+settled-answers edit next before begun worked after (Ok edited) outcome begins same kept answers =
+    let done : AnswersEach edit next begun worked (Ok edited) = subst (λ r. AnswersEach edit next begun worked r) (sym same) answers in
+    let here : AnswersEach edit next begun after (Ok edited) = subst (λ o. AnswersEach edit next begun o (Ok edited)) (sym kept) done in
+    subst (λ o. AnswersEach edit next o after (Ok edited)) begins here
+settled-answers edit next before begun worked after (Err fault) outcome begins same kept answers = λ state are paths.
+    err_after edit state worked after fault (subst (λ r. Answers edit state worked r) (sym same) (answers state (subst (AreOf state next) (sym begins) are) paths))
+  where
+    err_after : (edit : Edit) (state : State) (worked after : Option (RecordMap NodeRecord)) (fault : EditFault) → Answers edit state worked (Err fault) → Answers edit state after (Err fault)
+    err_after edit state worked after (Refused refusal) is = is
+    err_after edit state worked after Failed is = is
+    err_after edit state worked after (Damaged damage) is = is
+    err_after edit state worked after OutOfMemory is = is

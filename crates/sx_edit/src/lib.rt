@@ -3,6 +3,7 @@
 
 mod clear;
 mod damage;
+mod edits;
 mod fault;
 mod kinds;
 mod label;
@@ -10,8 +11,9 @@ mod lift;
 mod mend;
 mod reads;
 mod relabel;
-mod remove;
-mod set_scalar;
+mod removal;
+mod scalars;
 mod trees;
 
+pub use edits::{remove, set_scalar};
 pub use fault::EditFault;

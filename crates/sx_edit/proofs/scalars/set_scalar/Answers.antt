@@ -4,7 +4,7 @@ use Rattle.sx_edit.specs.Answers.{AnswersEach, GetsFew}
 use Rattle.sx_edit.proofs.Going.{goes_itself}
 use Rattle.sx_edit.proofs.Answering.{err-answers, memory-answers, err-explains_edit, untold-no_state, no-node}
 use Rattle.sx_edit.proofs.SettingScalars.{scalar-wrong, scalar-done, scalar-gets, scalar-cannot}
-use Rattle.sx_edit.proofs.set_scalar.set_scalar.Goals as goal
+use Rattle.sx_edit.proofs.scalars.set_scalar.Goals as goal
 
 pub returns-in_err-entry-clause-answers : goal.returns-in_err-entry-clause-answers
 returns-in_err-entry-clause-answers g c =

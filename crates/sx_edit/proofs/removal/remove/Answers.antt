@@ -4,7 +4,7 @@ use Rattle.sx_edit.proofs.Going.{goes_itself}
 use Rattle.sx_edit.proofs.Answering.{err-answers, err-explains_edit, breach-explains_edit, untold-no_state, no-node}
 use Rattle.sx_edit.proofs.Mending.{mended-untold}
 use Rattle.sx_edit.proofs.Splicing.{countable, moved-there, parented, remove-cannot, remove-done, remove-top, remove-value}
-use Rattle.sx_edit.proofs.remove.remove.Goals as goal
+use Rattle.sx_edit.proofs.removal.remove.Goals as goal
 
 pub returns-in_err-entry-clause-answers : goal.returns-in_err-entry-clause-answers
 returns-in_err-entry-clause-answers g c =

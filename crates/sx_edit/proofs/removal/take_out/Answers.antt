@@ -1,7 +1,7 @@
 use Rattle.std.proofs.Common.{None, refl}
 use Rattle.sx_edit.proofs.Results.{err_again, on_ok-then}
 use Rattle.sx_edit.proofs.Clearing.{taken-out}
-use Rattle.sx_edit.proofs.remove.take_out.Goals as goal
+use Rattle.sx_edit.proofs.removal.take_out.Goals as goal
 
 pub returns-clause-done : goal.returns-clause-done
 returns-clause-done g c = on_ok-then c.erase.result _ _ (λ gone. taken-out _ _ _ _ _ _ c.in_ok-clear.ensures.done gone) c.erase.ensures.ok
