@@ -16,3 +16,4 @@ pub mod Siblings
 pub mod Refilling
 pub mod Mending
 pub mod Splicing
+pub mod Naming

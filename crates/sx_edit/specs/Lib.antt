@@ -5,5 +5,6 @@ pub mod EditFault
 pub mod Edited
 pub mod Holes
 pub mod Mend
+pub mod Names
 pub mod Told
 pub mod Steps

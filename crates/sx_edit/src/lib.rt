@@ -9,6 +9,7 @@ mod kinds;
 mod label;
 mod lift;
 mod mend;
+mod names;
 mod reads;
 mod relabel;
 mod removal;
