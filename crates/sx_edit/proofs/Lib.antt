@@ -17,3 +17,4 @@ pub mod Refilling
 pub mod Mending
 pub mod Splicing
 pub mod Naming
+pub mod NewNames

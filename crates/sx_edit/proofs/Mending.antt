@@ -141,7 +141,7 @@ module _ (local : Kind → List ℕ → ℕ) (number : List Step → ℕ) where
       (λ xs ys shows_2. subst (λ w. Shows o3 (xs ++ (frame.node.number, w) ∷ ys)) changed (adopts_n xs ys (frame_row local number frames frame a) room enough shows_2))
       (λ fresh alike holds. lifts fresh shift alike holds)
 
-count-size : (trees : Forest) → count trees ≤ size trees
+pub count-size : (trees : Forest) → count trees ≤ size trees
 count-size no_trees = omega arith
 count-size (tree_then n below rest) = omega (arith, count-size rest)
 

@@ -84,9 +84,9 @@ module _ (k : ℕ) (scalar : Scalar) (next : ℕ) (r : NodeRecord) where
       let many = ap length above_is in
       omega (arith, length-nodes_of s.at.around)
 
-  pub scalar-cannot : (before read : Option (RecordMap NodeRecord)) → ForSome before (λ m. fin.get m k ≡ Some r) → read ≡ before → CannotRelabel k next read → IsNoState next before
-  unfolding IsNoState CannotRelabel
-  scalar-cannot before read there same cannot state are =
-      let s = seen k state next before r are there in
-      let few : size (plug s.at.around (beside s.at.left (tree_then s.at.node s.at.below s.at.right))) ≤ next = subst (λ t. size t ≤ next) s.at.stands are.few in
-      cannot s.at.around s.at.left s.at.node s.at.below s.at.right s.at.number few (subst (λ o. Shows o (rows_in (plug s.at.around (beside s.at.left (tree_then s.at.node s.at.below s.at.right))))) (sym same) s.shows)
+pub relabel-cannot : (k next : ℕ) (r : NodeRecord) (before read : Option (RecordMap NodeRecord)) → ForSome before (λ m. fin.get m k ≡ Some r) → read ≡ before → CannotRelabel k next read → IsNoState next before
+unfolding IsNoState CannotRelabel
+relabel-cannot k next r before read there same cannot state are =
+    let s = seen k state next before r are there in
+    let few : size (plug s.at.around (beside s.at.left (tree_then s.at.node s.at.below s.at.right))) ≤ next = subst (λ t. size t ≤ next) s.at.stands are.few in
+    cannot s.at.around s.at.left s.at.node s.at.below s.at.right s.at.number few (subst (λ o. Shows o (rows_in (plug s.at.around (beside s.at.left (tree_then s.at.node s.at.below s.at.right))))) (sym same) s.shows)

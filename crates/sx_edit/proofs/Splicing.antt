@@ -31,7 +31,7 @@ use Rattle.sx_edit.proofs.Answering.{IsNoState, paths-room}
 use Rattle.sx_edit.proofs.SettingScalars.{seen}
 
 -- what is read of the node above a hole
-parent-there : (frames : List Frame) (frame : Frame) (inside : Forest) (there : Option NodeRecord) (o : Option (RecordMap NodeRecord)) → Shows o (rows_in (plug (frame ∷ frames) inside))
+pub parent-there : (frames : List Frame) (frame : Frame) (inside : Forest) (there : Option NodeRecord) (o : Option (RecordMap NodeRecord)) → Shows o (rows_in (plug (frame ∷ frames) inside))
     → ForSome o (λ m. fin.get m frame.node.number ≡ there) → option_map row_of there ≡ Some (frame_row local_hash no_path frames frame (shown local_hash inside))
 parent-there frames frame inside there o shows is =
     let hole : List (ℕ × NodeRow) = rows local_hash no_path (around_hole (frame ∷ frames)) inside in

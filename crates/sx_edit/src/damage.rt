@@ -55,3 +55,10 @@ pub(crate) fn misplaced(node: u32, value: u64) -> Damage
 {
     damage(MISPLACED, u64::from(node), value)
 }
+
+/// The key stands where no key can.
+pub(crate) fn misplaced_key(node: u32) -> Damage
+    ensures { (next : ℕ) → IsBreach next result }
+{
+    misplaced(node, 3)
+}

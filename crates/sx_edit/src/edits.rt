@@ -7,11 +7,13 @@ ghost use Rattle.sx_edit.specs.EditFault.{ExplainsEdit};
 
 use crate::fault::EditFault;
 use crate::removal;
+use crate::renaming;
 use crate::scalars;
 use std::alloc::Global;
 use sx_tree::edit::Edited;
 use sx_tree::json::Scalar;
 use sx_tree::record::NodeRecord;
+use sx_tree::text::Text;
 use sx_view::RecordsMut;
 
 /// Keeps what an edit did since the mark where it is done, and else restores the records at the mark.
@@ -85,5 +87,29 @@ pub fn remove<N: RecordsMut<NodeRecord>>(
 {
     nodes.begin();
     let outcome = removal::remove(alloc, nodes, next, node);
+    settle(nodes, outcome)
+}
+
+/// The key has this name. `next` is the number that the next new node takes, at most 1,073,741,824.
+///
+/// # Errors
+///
+/// `NoNode` where there is no such node, then `WrongKind` where it is no key, then `NameTaken` where another key of the object has
+/// the name. After each error the records are as they were, without a mark.
+pub fn rename<N: RecordsMut<NodeRecord>>(
+    alloc: Global,
+    nodes: &mut N,
+    node: u32,
+    name: &Text,
+    next: u32,
+) -> Result<Edited, EditFault>
+    requires { next ≤ 2 ^ 30 }
+    ensures answers { AnswersEach (model.rename node name.now) next (N.told nodes.old) (N.told nodes.new) result }
+    ensures unchanged { OnErr result (N.same nodes.old nodes.new) }
+    ensures no_mark { IsFalse (N.has_mark nodes.new) }
+    ensures fault { IfErr result (ExplainsEdit next (N.told nodes.old) (Rose (N.faults nodes.old) (N.faults nodes.new))) }
+{
+    nodes.begin();
+    let outcome = renaming::rename(alloc, nodes, next, node, name);
     settle(nodes, outcome)
 }

@@ -13,8 +13,9 @@ mod names;
 mod reads;
 mod relabel;
 mod removal;
+mod renaming;
 mod scalars;
 mod trees;
 
-pub use edits::{remove, set_scalar};
+pub use edits::{remove, rename, set_scalar};
 pub use fault::EditFault;

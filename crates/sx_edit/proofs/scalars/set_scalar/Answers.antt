@@ -3,7 +3,7 @@ use Rattle.sx_edit.specs.Told.{Moment}
 use Rattle.sx_edit.specs.Answers.{AnswersEach, GetsFew}
 use Rattle.sx_edit.proofs.Going.{goes_itself}
 use Rattle.sx_edit.proofs.Answering.{err-answers, memory-answers, err-explains_edit, untold-no_state, no-node}
-use Rattle.sx_edit.proofs.SettingScalars.{scalar-wrong, scalar-done, scalar-gets, scalar-cannot}
+use Rattle.sx_edit.proofs.SettingScalars.{scalar-wrong, scalar-done, scalar-gets, relabel-cannot}
 use Rattle.sx_edit.proofs.scalars.set_scalar.Goals as goal
 
 pub returns-in_err-entry-clause-answers : goal.returns-in_err-entry-clause-answers
@@ -28,7 +28,7 @@ returns-in_err-label-clause-answers g c = memory-answers _ _ _ _ c.from_residual
 pub returns-in_err-relabel-clause-answers : goal.returns-in_err-relabel-clause-answers
 returns-in_err-relabel-clause-answers g c =
     err-answers _ _ _ _ c.from_residual-in_err-relabel.result _ c.from_residual-in_err-relabel.ensures.1
-    (λ damaged. scalar-cannot _ c.args.value.now _ c.in-Some.entry _ _ (λ m e. sym (c.in_ok-entry.ensures.found m e) ∙ c.in-Some.is) c.in_ok-entry.ensures.same (c.in_err-relabel.ensures.cannot damaged))
+    (λ damaged. relabel-cannot _ _ c.in-Some.entry _ _ (λ m e. sym (c.in_ok-entry.ensures.found m e) ∙ c.in-Some.is) c.in_ok-entry.ensures.same (c.in_err-relabel.ensures.cannot damaged))
 
 pub returns-clause-answers : goal.returns-clause-answers
 returns-clause-answers g c =
