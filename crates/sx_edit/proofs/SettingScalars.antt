@@ -62,7 +62,7 @@ module _ (k : ℕ) (scalar : Scalar) (next : ℕ) (r : NodeRecord) where
       let change : Node → Forest → Forest → Forest = λ n below rest. tree_then (scalar_node k scalar) below rest in
       let new_state : State = with_trees state 0 (change_at k change state.trees) in
       let is_apply = ap (if_there k (λ q. unless (wrong_kind (not (is_scalar q.node.kind)) q.node ∷ paths_spent state new_state ∷ []) new_state)) s.at.spot
-          ∙ ap (λ (b : Bool). unless (wrong_kind (not b) n ∷ paths_spent state new_state ∷ []) new_state) (ap is_scalar (sym kind_is) ∙ right) in
+      ∙ ap (λ (b : Bool). unless (wrong_kind (not b) n ∷ paths_spent state new_state ∷ []) new_state) (ap is_scalar (sym kind_is) ∙ right) in
       let room = paths-room _ _ new_state (λ p e. paths p (is_apply ∙ e)) in
       let shows_read : Shows read.told (rows_in (plug s.at.around (beside s.at.left (tree_then n s.at.below s.at.right)))) = subst (λ o. Shows o (rows_in (plug s.at.around (beside s.at.left (tree_then s.at.node s.at.below s.at.right))))) (sym same) s.shows in
       let shows = (relabeled s.at.around s.at.left n s.at.below s.at.right s.at.number shows_read).0 in

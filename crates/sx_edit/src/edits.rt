@@ -6,9 +6,7 @@ ghost use Rattle.sx_edit.specs.Answers.{AnswersEach, GetsFew};
 ghost use Rattle.sx_edit.specs.EditFault.{ExplainsEdit};
 
 use crate::fault::EditFault;
-use crate::removal;
-use crate::renaming;
-use crate::scalars;
+use crate::{removal, renaming, scalars};
 use std::alloc::Global;
 use sx_tree::edit::Edited;
 use sx_tree::json::Scalar;

@@ -63,19 +63,31 @@ pub(crate) fn scalar_label(alloc: Global, value: &Scalar) -> Result<Label, Alloc
     match value {
         Scalar::Str(content) => {
             let text = content.copy(alloc)?;
-            Ok(Label { kind: Kind::Str, text })
+            Ok(Label {
+                kind: Kind::Str,
+                text,
+            })
         }
         Scalar::Number(literal) => {
             let text = literal_text(alloc, literal)?;
-            Ok(Label { kind: Kind::Number, text })
+            Ok(Label {
+                kind: Kind::Number,
+                text,
+            })
         }
         Scalar::Bool(bit) => {
             let text = bit_text(alloc, *bit)?;
-            Ok(Label { kind: Kind::Bool, text })
+            Ok(Label {
+                kind: Kind::Bool,
+                text,
+            })
         }
         Scalar::Null => {
             let text = empty_text(alloc)?;
-            Ok(Label { kind: Kind::Null, text })
+            Ok(Label {
+                kind: Kind::Null,
+                text,
+            })
         }
     }
 }

@@ -65,7 +65,11 @@ pub(crate) fn write<N: RecordsMut<NodeRecord>>(
 }
 
 /// Takes the node's record away.
-pub(crate) fn erase<N: RecordsMut<NodeRecord>>(alloc: Global, nodes: &mut N, node: u32) -> Result<(), Fault>
+pub(crate) fn erase<N: RecordsMut<NodeRecord>>(
+    alloc: Global,
+    nodes: &mut N,
+    node: u32,
+) -> Result<(), Fault>
     ensures ok { OnOk result (N.told nodes.new ≡ option_map (λ records. map.remove records node) (N.told nodes.old)) }
     ensures same_gets { N.gets nodes.new ≡ N.gets nodes.old }
     ensures goes_on { GoesOn N.told N.faults N.has_mark N.marks nodes.old nodes.new }

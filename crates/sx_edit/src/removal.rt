@@ -32,10 +32,7 @@ pub(crate) fn tree_of(node: u32, entry: &NodeRecord) -> Result<Tree, Fault>
             nodes,
             hash: entry.hash,
         }),
-        None => Err(Fault::Damaged(misplaced(
-            node,
-            u64::from(entry.descendants) + 1,
-        ))),
+        None => Err(Fault::Damaged(misplaced(node, u64::from(entry.descendants) + 1))),
     }
 }
 
