@@ -1,13 +1,14 @@
 //! Records in memory.
-ghost use Rattle.std.specs.Prelude.{◌≡◌, IsFalse, Some};
+ghost use Rattle.std.specs.Prelude.{◌≡◌, IfOk, IfSome, IsFalse, Some};
 ghost use Rattle.std.specs.FinMap as map;
 ghost use Rattle.sx_view.specs.Slots.{CanRewind, CanRewind-prop};
 
-use crate::slots::{Change, forget, put_noted, record_in, rewind};
+use crate::slots::{Change, forget, numbers_in, put_noted, record_in, rewind};
 use crate::{Fault, Records, RecordsMut};
 use std::alloc::{AllocError, Global};
 use std::collections::BTreeMap;
 use sx_record::Record;
+use sx_tree::numbers::Numbers;
 
 /// Records in memory, which fail only for want of memory.
 #[derive(Drop)]
@@ -34,6 +35,13 @@ impl<R: Record> MemRecords<R> {
             changes: None,
             gets: 0,
         }
+    }
+
+    /// The numbers that have records, in ascending order. Their length is how many records there are.
+    pub fn numbers(&self, alloc: Global) -> Result<Numbers, AllocError>
+        ensures { IfOk result (λ numbers. IfSome (⟦<MemRecords<R> as Records<R>>⟧.told self.now) (λ records. numbers ≡ map.keys records)) }
+    {
+        numbers_in(alloc, &self.slots)
     }
 }
 
