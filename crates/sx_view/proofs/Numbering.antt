@@ -1,15 +1,20 @@
 -- The numbers of the records in slots that ascend.
-use Rattle.std.proofs.Common.{◌≡◌, ℕ, cond, List, [], ◌∷◌, ◌++◌, map, Option, Some, None, refl, sym, ap, ◌∙◌, append_assoc}
+use Rattle.std.proofs.Common.{◌≡◌, ℕ, arith, length, cond, List, [], ◌∷◌, map, Option, Some, None, refl, sym, ap, ◌∙◌}
+use Rattle.std.specs.Cmp.{nat_cmp_total}
 use Rattle.std.specs.Ordering.{nat_cmp, is_eq}
 use Rattle.std.specs.List.Sorted.{IsStrictlySortedBy}
 use Rattle.std.specs.List.{AllByRecursion}
 use Rattle.std.specs.FinMap as fin
-use Rattle.std.specs.FinMap.{find, put, entries-insert, get-entries}
+use Rattle.std.specs.FinMap.{find, put, entries-insert, get-entries, len-entries, len-empty}
 use Rattle.std.specs.FinMap.Entries.{by_order}
 use Rattle.std.specs.declared.cmp.Ordering.{Ordering}
 use Rattle.std.specs.declared.cmp.Ordering.TheVariants.{Less}
 use Rattle.sx_view.specs.Slots.{held}
 use Rattle.sx_view.proofs.SlotLemmas.{with_slot-none}
+
+nothing : {X : Type 0} (es : List X) → length es ≡ 0 → es ≡ []
+nothing [] is = refl
+nothing (e ∷ es) is = absurd (omega arith)
 
 module _ {R : Type 0} where
   abbrev pub with_filled : ℕ → Option R → List (ℕ × R) → List (ℕ × R)
@@ -33,10 +38,10 @@ module _ {R : Type 0} where
 
   pub entries-held : (slots : List (ℕ × Option R)) → IsStrictlySortedBy nat_cmp (map (λ e. e.0) slots) → fin.entries (held slots) ≡ filled slots
   unfolding IsStrictlySortedBy
-  entries-held [] sorted = refl
+  entries-held [] sorted = nothing _ (sym (len-entries (fin.empty {X = R} {R = nat_cmp})) ∙ len-empty nat_cmp R)
   entries-held ((k, None) ∷ slots) sorted =
       let rest = entries-held slots sorted.1 in
       ap fin.entries (with_slot-none k (held slots) (get-entries (held slots) k ∙ ap (find nat_cmp k) rest ∙ find-below k slots sorted.0)) ∙ rest
   entries-held ((k, Some r) ∷ slots) sorted =
       let rest = entries-held slots sorted.1 in
-      entries-insert (held slots) k r ∙ ap (put nat_cmp k r) rest ∙ put-below k r slots sorted.0
+      entries-insert nat_cmp_total (held slots) k r ∙ ap (put nat_cmp k r) rest ∙ put-below k r slots sorted.0
