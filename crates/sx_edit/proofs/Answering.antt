@@ -1,5 +1,5 @@
 -- What each answer of an edit says of a state.
-use Rattle.std.proofs.Common.{◌≡◌, ℕ, ◌+◌, ◌≤◌, Bool, true, false, List, [], ◌∷◌, Option, Some, None, refl, sym, ap, subst, inr, ◌∙◌, arith}
+use Rattle.std.proofs.Common.{◌≡◌, ℕ, Bool, true, false, [], ◌∷◌, Option, None, refl, sym, ap, subst, inr}
 use Rattle.std.specs.Prelude.{Result, Ok, Err, IfErr, IsErrAnd, OnOk}
 use Rattle.std.specs.Option.{ForSome}
 use Rattle.std.specs.FinMap as fin
@@ -16,7 +16,7 @@ use Rattle.sx_model.specs.State.{State}
 use Rattle.sx_model.specs.Tree.{Spot, spot}
 use Rattle.sx_edit.specs.declared.fault.EditFault.{EditFault}
 use Rattle.sx_edit.specs.declared.fault.EditFault.TheVariants.{Refused, Failed, Damaged, OutOfMemory}
-use Rattle.sx_edit.specs.Damage.{Explains, IsBreachFault, IsDamage, IsDamaged}
+use Rattle.sx_edit.specs.Damage.{Explains, IsBreachFault, IsDamaged}
 use Rattle.sx_edit.specs.EditFault.{edit_fault, ExplainsEdit}
 use Rattle.sx_edit.specs.Steps.{GoesOn}
 use Rattle.sx_edit.specs.Answers.{AreOf, Answers, AnswersEach}

@@ -1,6 +1,6 @@
 -- From the hole up, one row after the other.
 use Rattle.std.proofs.Common.{◌≡◌, ℕ, ◌+◌, ◌*◌, ◌≤◌, arith, Bool, true, false, cond, List, [], ◌∷◌, ◌++◌, Option, Some, None, refl, sym, ap, subst, ◌∙◌, mul_comm, map, append_assoc}
-use Rattle.std.specs.Prelude.{◌%◌, ◌^◌, Result, Ok, Err, OnOk}
+use Rattle.std.specs.Prelude.{◌%◌, ◌^◌}
 use Rattle.std.specs.Ordering.{nat_cmp, eq_by_cmp}
 use Rattle.std.specs.List.{list_any}
 use Rattle.std.specs.FinMap as fin

@@ -1,9 +1,6 @@
 -- Over the rows of trees nothing is damaged.
 use Rattle.std.proofs.Common.{◌≡◌, ℕ, ◌+◌, ◌-◌, ◌<◌, ◌≤◌, length, List, [], ◌∷◌, Option, Some, None, refl, sym, ap, subst, ◌∙◌, ◌*◌, mul_comm, arith}
 use Rattle.std.specs.Prelude.{◌%◌, ◌^◌}
-use Rattle.std.specs.Prelude.{Result, IfErr}
-use Rattle.std.proofs.lemmas.Result.{IfErr-weaker}
-use Rattle.sx_view.specs.declared.fault.Fault.{Fault}
 use Rattle.sx_model.specs.Holes.{Shown, Frame, shown_by, frame_row}
 use Rattle.sx_model.specs.Records.{NodeRow}
 use Rattle.sx_edit.specs.Holes.{AreNew, above, top_shown, frame_rows, whole, shifted, IsShift, IsAlike}

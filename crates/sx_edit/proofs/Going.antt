@@ -1,10 +1,10 @@
 -- One step of an edit after another.
-use Rattle.std.proofs.Common.{◌≡◌, ℕ, ◌+◌, ◌≤◌, Bool, Option, None, inl, inr, ◌∙◌, arith}
-use Rattle.std.specs.Prelude.{◌^◌, ◌-◌, min, Result, Ok, Err, IfErr, IsErrAnd}
+use Rattle.std.proofs.Common.{◌≡◌, ℕ, Bool, Option, inl, inr, ◌∙◌, arith}
+use Rattle.std.specs.Prelude.{Result, IfErr, IsErrAnd}
 use Rattle.sx_view.specs.declared.fault.Fault.{Fault}
 use Rattle.sx_view.specs.declared.fault.Fault.TheVariants.{Failed, Damaged, OutOfMemory}
 use Rattle.sx_outside.specs.Faults.{Rose}
-use Rattle.sx_edit.specs.Damage.{Explains, IsDamage, IsDamaged}
+use Rattle.sx_edit.specs.Damage.{Explains}
 use Rattle.sx_edit.specs.Steps.{GoesOn}
 use Rattle.sx_edit.proofs.Results.{err_again}
 

@@ -1,29 +1,27 @@
 -- What a record that was read says of a state.
 use Rattle.std.specs.Prelude.{◌==◌}
-use Rattle.std.proofs.Common.{◌≡◌, ℕ, Bool, true, false, eqb, List, [], ◌∷◌, ◌++◌, map, Option, Some, None, refl, sym, ap, subst, ◌∙◌, arith}
+use Rattle.std.proofs.Common.{◌≡◌, ℕ, Bool, eqb, List, [], ◌∷◌, Option, Some, None, refl, sym, ap, subst, ◌∙◌, arith}
 use Rattle.std.specs.Prelude.{option_map}
 use Rattle.std.specs.List.{list_any}
 use Rattle.std.specs.Option.{ForSome}
 use Rattle.std.specs.Ordering.{nat_cmp, eq_by_cmp}
 use Rattle.std.specs.FinMap as fin
-use Rattle.std.specs.FinMap.{find}
 use Rattle.std.proofs.lemmas.Grind.{common_steps}
 use Rattle.sx_tree.specs.declared.record.NodeRecord.{NodeRecord}
 use Rattle.sx_view.specs.Records.{RecordMap}
 use Rattle.sx_view.specs.Rows.{row_of}
 use Rattle.sx_model.specs.Hash.{local_hash}
 use Rattle.sx_model.specs.State.{State}
-use Rattle.sx_model.specs.Tree.{Node, Forest, no_trees, tree_then, beside, numbers, AreDistinctNumbers, IsWellFormed, spot}
-use Rattle.sx_model.specs.Records.{NodeRow, around_children, rows}
-use Rattle.sx_model.specs.Holes.{plug, shown, around_hole}
+use Rattle.sx_model.specs.Tree.{Forest, no_trees, tree_then, beside, numbers, AreDistinctNumbers, spot}
+use Rattle.sx_model.specs.Holes.{plug, shown}
 use Rattle.sx_model.proofs.Holes.{rows-plug}
-use Rattle.sx_edit.specs.Told.{AreDistinct, numbers_of, Shows, Holds}
+use Rattle.sx_edit.specs.Told.{AreDistinct, Shows}
 use Rattle.sx_edit.specs.Edited.{no_path, rows_in}
 use Rattle.sx_edit.specs.Answers.{AreOf}
 use Rattle.sx_edit.proofs.Finding.{find-new}
 use Rattle.sx_edit.proofs.Climbing.{some_is, numbers-rows}
 use Rattle.sx_edit.proofs.Showing.{shows-get}
-use Rattle.sx_edit.proofs.Standing.{own_row, before_own, behind_own, rows-own}
+use Rattle.sx_edit.proofs.Standing.{own_row, rows-own}
 use Rattle.sx_edit.proofs.Seeking.{IsAt, Sought, missing, found, seek}
 
 test_same : (k m : ℕ) → eqb k m ≡ eq_by_cmp nat_cmp k m

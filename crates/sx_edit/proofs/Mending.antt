@@ -1,5 +1,5 @@
 -- A tree in another one's place: what stands around it.
-use Rattle.std.proofs.Common.{◌≡◌, ℕ, suc, ◌+◌, ◌-◌, ◌≤◌, ◌<◌, List, [], ◌∷◌, ◌++◌, length, Option, Some, None, refl, sym, ap, subst, ◌∙◌, arith}
+use Rattle.std.proofs.Common.{◌≡◌, ℕ, suc, ◌+◌, ◌-◌, ◌≤◌, ◌<◌, List, [], ◌∷◌, ◌++◌, Option, Some, None, refl, sym, ap, subst, ◌∙◌, arith}
 use Rattle.std.specs.Prelude.{◌%◌, ◌^◌, option_map}
 use Rattle.std.specs.Option.{option_or, ForSome}
 use Rattle.std.specs.FinMap as fin
@@ -11,7 +11,7 @@ use Rattle.sx_view.specs.Rows.{row_of}
 use Rattle.sx_model.specs.Tree.{Forest, no_trees, tree_then, beside, count, size}
 use Rattle.sx_model.specs.Records.{NodeRow, at_top, around_children, first_of, last_of, rows}
 use Rattle.sx_model.specs.Holes.{Frame, Shown, join, plug, shown, shown_by, around_hole, frame_row}
-use Rattle.sx_model.proofs.Holes.{shown-beside, or_assoc}
+use Rattle.sx_model.proofs.Holes.{shown-beside}
 use Rattle.sx_edit.specs.Holes.{AreNew, IsShift, IsAlike, top_shown, whole}
 use Rattle.sx_edit.specs.Told.{Holds, Shows, Moment, IsChanged, IsLifted, CannotLift}
 use Rattle.sx_edit.specs.declared.trees.Gap.{Gap}
@@ -19,7 +19,7 @@ use Rattle.sx_edit.specs.declared.trees.Tree.{Tree}
 use Rattle.sx_edit.specs.Mend.{IsAdopted, IsMended, adopted, end, hash_of_tree, nodes_of_tree, number_of_tree, shown_tree, trees_of_tree, opened}
 use Rattle.sx_edit.proofs.Climbing.{some_is}
 use Rattle.sx_edit.proofs.Showing.{shows-get, shows-put}
-use Rattle.sx_edit.proofs.Siblings.{or_some, changed-untold}
+use Rattle.sx_edit.proofs.Siblings.{or_some}
 use Rattle.sx_edit.proofs.Standing.{top_shown-plug}
 use Rattle.sx_edit.proofs.Relabeling.{deep-plug, difference_of}
 use Rattle.sx_edit.proofs.Refilling.{refilled}

@@ -1,31 +1,30 @@
 -- What renaming answers over the records of a state.
-use Rattle.std.proofs.Common.{◌≡◌, ℕ, ◌+◌, ◌≤◌, Bool, true, false, eqb, List, [], ◌∷◌, ◌++◌, Option, Some, None, refl, sym, ap, subst, ◌∙◌, arith}
-use Rattle.std.specs.Prelude.{◌==◌, ◌&&◌, Result, Ok, Err, not, find, filter, option_map, bytes_eq}
+use Rattle.std.proofs.Common.{◌≡◌, ℕ, ◌+◌, ◌≤◌, Bool, true, false, List, [], ◌∷◌, Option, Some, None, refl, sym, ap, subst, ◌∙◌, arith}
+use Rattle.std.specs.Prelude.{◌==◌, ◌&&◌, Ok, Err, not, find, filter, option_map, bytes_eq}
 use Rattle.std.specs.Option.{ForSome}
 use Rattle.std.specs.FinMap as fin
 use Rattle.std.proofs.lemmas.Grind.{common_steps}
 use Rattle.sx_tree.specs.declared.edit.EditRefusal.TheVariants.{WrongKind, NameTaken}
-use Rattle.sx_tree.specs.declared.edit.EditRefusal.{EditRefusal}
 use Rattle.sx_tree.specs.declared.record.Kind.{Kind}
 use Rattle.sx_tree.specs.declared.record.Kind.TheVariants.{Document, Object, Array, Key, Str, Number, Bool as Truth, Null}
 use Rattle.sx_tree.specs.declared.record.NodeRecord.{NodeRecord}
 use Rattle.sx_view.specs.Records.{RecordMap}
 use Rattle.sx_view.specs.Rows.{row_of}
 use Rattle.sx_model.specs.Hash.{local_hash}
-use Rattle.sx_model.specs.Edit.{Edit, rename, apply, if_there, unless, when, wrong_kind, name_taken, other_keys, paths_spent, with_trees, told_of}
+use Rattle.sx_model.specs.Edit.{rename, apply, if_there, unless, wrong_kind, name_taken, other_keys, paths_spent, with_trees}
 use Rattle.sx_model.specs.State.{State}
-use Rattle.sx_model.specs.Tree.{Node, Forest, no_trees, tree_then, beside, is_key, change_at, count, document_node, document_with, IsWellFormed, size, Spot, spot, tops}
-use Rattle.sx_model.specs.Records.{NodeRow, first_of, rows}
-use Rattle.sx_model.specs.Holes.{Frame, Shown, plug, shown, around_hole, rows_before, rows_behind}
+use Rattle.sx_model.specs.Tree.{Node, Forest, no_trees, tree_then, beside, is_key, change_at, document_node, document_with, size, Spot, tops}
+use Rattle.sx_model.specs.Records.{NodeRow, first_of}
+use Rattle.sx_model.specs.Holes.{Frame, plug, shown, around_hole, rows_before, rows_behind}
 use Rattle.sx_model.proofs.Holes.{rows-plug}
 use Rattle.sx_edit.specs.declared.fault.EditFault.TheVariants.{Refused}
 use Rattle.sx_edit.specs.Told.{Shows, Moment}
-use Rattle.sx_edit.specs.Names.{FindsKey, is_sought}
-use Rattle.sx_edit.specs.Edited.{no_path, rows_in, IsRelabeled, CannotRelabel}
-use Rattle.sx_edit.specs.Answers.{AreOf, Answers, AnswersEach}
+use Rattle.sx_edit.specs.Names.{FindsKey}
+use Rattle.sx_edit.specs.Edited.{no_path, rows_in, IsRelabeled}
+use Rattle.sx_edit.specs.Answers.{AreOf, AnswersEach}
 use Rattle.sx_edit.proofs.Climbing.{some_is}
 use Rattle.sx_edit.proofs.Standing.{own_row}
-use Rattle.sx_edit.proofs.Relabeling.{deep-plug, size-beside}
+use Rattle.sx_edit.proofs.Relabeling.{deep-plug}
 use Rattle.sx_edit.proofs.Seeking.{nodes_of}
 use Rattle.sx_edit.proofs.Looking.{IsSeen}
 use Rattle.sx_edit.proofs.Mending.{count-size}

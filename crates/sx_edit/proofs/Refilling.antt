@@ -1,5 +1,5 @@
 -- Other trees in a hole between siblings: what is left to do once their rows are there.
-use Rattle.std.proofs.Common.{◌≡◌, ℕ, List, ◌∷◌, ◌++◌, Option, Some, refl, sym, ap, subst, ◌∙◌, append_assoc}
+use Rattle.std.proofs.Common.{◌≡◌, ℕ, List, ◌∷◌, ◌++◌, Option, refl, sym, ap, subst, ◌∙◌, append_assoc}
 use Rattle.sx_tree.specs.declared.record.Kind.{Kind}
 use Rattle.sx_tree.specs.declared.record.Step.{Step}
 use Rattle.sx_tree.specs.declared.record.NodeRecord.{NodeRecord}
@@ -9,9 +9,9 @@ use Rattle.sx_model.specs.Records.{Around, NodeRow, at_top, around_children, fir
 use Rattle.std.specs.Option.{option_or}
 use Rattle.sx_edit.specs.Holes.{whole, IsAlike, AreNew}
 use Rattle.sx_view.specs.Records.{RecordMap}
-use Rattle.sx_edit.specs.Told.{Holds, Shows, AreDistinct, numbers_of, IsChanged}
+use Rattle.sx_edit.specs.Told.{Holds, Shows, AreDistinct, IsChanged}
 use Rattle.sx_model.proofs.Holes.{first_of-beside, or_none, rows-beside, rows-plug}
-use Rattle.sx_edit.proofs.Climbing.{map-append, numbers-rows_before, earlier, later, whole-split}
+use Rattle.sx_edit.proofs.Climbing.{earlier, later, whole-split}
 use Rattle.sx_edit.proofs.Siblings.{right-changed, left-changed}
 use Rattle.sx_edit.proofs.Standing.{new-whole, numbers-whole}
 

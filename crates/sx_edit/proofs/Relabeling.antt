@@ -1,26 +1,25 @@
 -- Another kind and label of a node, and what is left to lift then.
-use Rattle.std.proofs.Common.{◌≡◌, ℕ, suc, ◌+◌, ◌*◌, ◌≤◌, ◌<◌, List, [], ◌∷◌, ◌++◌, length, Option, Some, refl, sym, ap, subst, ◌∙◌, add-zero, arith}
+use Rattle.std.proofs.Common.{◌≡◌, ℕ, ◌+◌, ◌*◌, ◌≤◌, ◌<◌, List, [], ◌∷◌, ◌++◌, length, Option, Some, refl, sym, ap, subst, ◌∙◌, add-zero, arith}
 use Rattle.std.specs.Prelude.{◌%◌, ◌^◌, ◌-◌, option_map}
 use Rattle.std.specs.Option.{ForSome, option_or}
 use Rattle.std.specs.FinMap as fin
 use Rattle.std.proofs.Math.Nat.{add-mod-mod, mod-add-mod}
 use Rattle.sx_tree.specs.declared.record.Kind.{Kind}
-use Rattle.sx_tree.specs.declared.record.Step.{Step}
 use Rattle.sx_tree.specs.declared.record.NodeRecord.{NodeRecord}
 use Rattle.sx_view.specs.Records.{RecordMap}
 use Rattle.sx_view.specs.Rows.{row_of}
 use Rattle.sx_model.specs.Hash.{local_hash}
 use Rattle.sx_model.specs.Tree.{Node, Forest, no_trees, tree_then, beside, size}
 use Rattle.sx_model.specs.Records.{Around, NodeRow, around_children, first_of, row, rows}
-use Rattle.sx_model.specs.Holes.{Frame, Shown, plug, filled, shown, around_hole, row_over}
-use Rattle.sx_model.proofs.Holes.{rows-plug, shown-filled}
+use Rattle.sx_model.specs.Holes.{Frame, Shown, plug, filled, shown, around_hole}
+use Rattle.sx_model.proofs.Holes.{rows-plug}
 use Rattle.sx_edit.specs.Holes.{AreNew, above, IsShift, IsAlike, top_shown, whole}
-use Rattle.sx_edit.specs.Told.{AreDistinct, numbers_of, Shows, Moment, IsLifted, CannotLift}
+use Rattle.sx_edit.specs.Told.{AreDistinct, Shows, Moment, IsLifted, CannotLift}
 use Rattle.sx_edit.specs.Edited.{no_path, rows_in, IsRelabeled, CannotRelabel}
 use Rattle.sx_edit.proofs.Climbing.{some_is, parent-around_hole}
 use Rattle.sx_edit.proofs.Showing.{shows-get, shows-put}
 use Rattle.sx_edit.proofs.Shifts.{hash_among}
-use Rattle.sx_edit.proofs.Standing.{shown-with_node, top_shown-plug, new-whole, numbers-whole, own_row, before_own, behind_own, rows-own, with_node}
+use Rattle.sx_edit.proofs.Standing.{shown-with_node, top_shown-plug, new-whole, numbers-whole, own_row, before_own, behind_own, rows-own}
 
 hash_changed : (M l k s d : ℕ) → k % M ≡ (l + d) % M → (k + 257 * s) % M ≡ ((l + 257 * s) % M + d) % M
 hash_changed M l k s d is =

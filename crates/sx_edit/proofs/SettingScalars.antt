@@ -1,15 +1,14 @@
 -- What setting a scalar answers over the records of a state.
 use Rattle.std.proofs.Common.{◌≡◌, ℕ, ◌+◌, ◌≤◌, Bool, true, false, List, [], ◌∷◌, Option, Some, None, refl, sym, ap, subst, ◌∙◌, arith}
-use Rattle.std.specs.Prelude.{Result, Ok, Err, not, length}
+use Rattle.std.specs.Prelude.{Ok, Err, not, length}
 use Rattle.std.specs.Option.{ForSome}
 use Rattle.std.specs.FinMap as fin
-use Rattle.sx_tree.specs.declared.edit.EditRefusal.TheVariants.{WrongKind, PathsSpent}
-use Rattle.sx_tree.specs.declared.edit.EditRefusal.{EditRefusal}
+use Rattle.sx_tree.specs.declared.edit.EditRefusal.TheVariants.{WrongKind}
 use Rattle.sx_tree.specs.declared.json.Scalar.{Scalar}
 use Rattle.sx_tree.specs.declared.record.Kind.{Kind}
 use Rattle.sx_tree.specs.declared.record.NodeRecord.{NodeRecord}
 use Rattle.sx_view.specs.Records.{RecordMap}
-use Rattle.sx_model.specs.Edit.{Edit, set_scalar, apply, if_there, unless, when, wrong_kind, paths_spent, path_limit, with_trees, told_of}
+use Rattle.sx_model.specs.Edit.{set_scalar, if_there, unless, wrong_kind, paths_spent, with_trees}
 use Rattle.sx_model.specs.Numbered.{scalar_node}
 use Rattle.sx_model.specs.State.{State}
 use Rattle.sx_model.specs.Tree.{Node, Forest, tree_then, beside, is_scalar, change_at, Spot, spot, size}
@@ -19,7 +18,7 @@ use Rattle.sx_edit.proofs.Seeking.{nodes_of}
 use Rattle.sx_edit.specs.declared.fault.EditFault.TheVariants.{Refused}
 use Rattle.sx_edit.specs.Told.{Shows, Moment}
 use Rattle.sx_edit.specs.Edited.{rows_in, IsRelabeled, CannotRelabel}
-use Rattle.sx_edit.specs.Answers.{AreOf, Answers, AnswersEach}
+use Rattle.sx_edit.specs.Answers.{AreOf, AnswersEach}
 use Rattle.sx_edit.proofs.Looking.{Looked, nowhere, somewhere, look, IsSeen}
 use Rattle.sx_edit.proofs.Answering.{IsNoState, paths-room}
 

@@ -1,6 +1,5 @@
 -- Links between neighbours, where one of the two changes.
 use Rattle.std.proofs.Common.{◌≡◌, ℕ, List, ◌∷◌, ◌++◌, Option, Some, None, refl, sym, ap, subst, ◌∙◌, append_assoc}
-use Rattle.std.specs.Prelude.{Result, OnOk}
 use Rattle.std.specs.Prelude.{option_map}
 use Rattle.std.specs.Option.{option_or, ForSome}
 use Rattle.std.specs.FinMap as fin
@@ -8,7 +7,7 @@ use Rattle.sx_tree.specs.declared.record.Kind.{Kind}
 use Rattle.sx_tree.specs.declared.record.Step.{Step}
 use Rattle.sx_tree.specs.declared.record.NodeRecord.{NodeRecord}
 use Rattle.sx_model.specs.Tree.{Forest, no_trees, tree_then}
-use Rattle.sx_model.specs.Records.{Around, NodeRow, around_children, row, rows}
+use Rattle.sx_model.specs.Records.{Around, NodeRow, around_children, rows}
 use Rattle.sx_model.specs.Holes.{shown, row_over}
 use Rattle.sx_view.specs.Records.{RecordMap}
 use Rattle.sx_view.specs.Rows.{row_of}

@@ -1,27 +1,26 @@
 -- A tree that goes, among the records of a state.
-use Rattle.std.proofs.Common.{◌≡◌, ℕ, suc, ◌+◌, ◌≤◌, ◌<◌, Bool, true, false, List, [], ◌∷◌, ◌++◌, Option, Some, None, refl, sym, ap, subst, ◌∙◌, arith, append_assoc, add-zero}
-use Rattle.std.specs.Prelude.{◌^◌, Result, Ok, Err, option_map}
+use Rattle.std.proofs.Common.{◌≡◌, ℕ, suc, ◌+◌, ◌≤◌, Bool, true, false, List, [], ◌∷◌, ◌++◌, Option, Some, None, refl, sym, ap, subst, ◌∙◌, arith, append_assoc, add-zero}
+use Rattle.std.specs.Prelude.{◌^◌, Ok, Err, option_map}
 use Rattle.std.specs.Option.{ForSome}
 use Rattle.std.specs.FinMap as fin
 use Rattle.sx_tree.specs.declared.edit.EditRefusal.TheVariants.{WrongKind}
-use Rattle.sx_tree.specs.declared.edit.EditRefusal.{EditRefusal}
 use Rattle.sx_tree.specs.declared.record.NodeRecord.{NodeRecord}
 use Rattle.sx_view.specs.Records.{RecordMap}
 use Rattle.sx_view.specs.Rows.{row_of}
 use Rattle.sx_model.specs.Hash.{local_hash}
-use Rattle.sx_model.specs.Edit.{Edit, remove, apply, if_there, unless, when, wrong_kind, must_stay, paths_spent, with_trees, told_of}
+use Rattle.sx_model.specs.Edit.{remove, apply, if_there, unless, wrong_kind, must_stay, paths_spent, with_trees}
 use Rattle.sx_model.specs.State.{State}
-use Rattle.sx_model.specs.Tree.{Node, Forest, no_trees, tree_then, beside, is_key, change_at, size, spot}
-use Rattle.sx_model.specs.Records.{Around, NodeRow, around_children, first_of, last_of, rows}
+use Rattle.sx_model.specs.Tree.{Node, Forest, no_trees, tree_then, beside, is_key, change_at, size}
+use Rattle.sx_model.specs.Records.{NodeRow, around_children, first_of, last_of, rows}
 use Rattle.sx_model.specs.Holes.{Frame, Shown, plug, shown, around_hole, frame_row, rows_before, rows_behind}
 use Rattle.sx_model.proofs.Holes.{rows-plug}
 use Rattle.sx_edit.specs.declared.fault.EditFault.TheVariants.{Refused}
 use Rattle.sx_edit.specs.declared.trees.Gap.{Gap}
 use Rattle.sx_edit.specs.declared.trees.Tree.{Tree}
-use Rattle.sx_edit.specs.Told.{Shows, Holds}
-use Rattle.sx_edit.specs.Mend.{IsMended, IsTakenOut, opened, nodes_of_tree, shown_tree}
+use Rattle.sx_edit.specs.Told.{Shows}
+use Rattle.sx_edit.specs.Mend.{IsMended, IsTakenOut, opened, shown_tree}
 use Rattle.sx_edit.specs.Edited.{no_path, rows_in}
-use Rattle.sx_edit.specs.Answers.{AreOf, Answers, AnswersEach}
+use Rattle.sx_edit.specs.Answers.{AnswersEach}
 use Rattle.sx_edit.proofs.Climbing.{some_is, holds-get}
 use Rattle.sx_edit.proofs.Standing.{new-whole, own_row, before_own, behind_own, rows-own}
 use Rattle.sx_edit.proofs.Relabeling.{deep-plug, size-beside}

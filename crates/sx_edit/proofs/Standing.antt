@@ -1,20 +1,15 @@
 -- The rows of trees with a node among them, and what stands around it.
-use Rattle.std.proofs.Common.{◌≡◌, ℕ, suc, ◌+◌, List, [], ◌∷◌, ◌++◌, Option, Some, None, refl, sym, ap, subst, ◌∙◌, arith, append_assoc}
-use Rattle.std.specs.Prelude.{false, option_map}
-use Rattle.std.specs.Option.{option_or, ForSome}
-use Rattle.std.specs.List.{list_any}
-use Rattle.std.specs.Ordering.{nat_cmp, eq_by_cmp}
-use Rattle.std.specs.FinMap as fin
+use Rattle.std.proofs.Common.{◌≡◌, ℕ, List, [], ◌∷◌, ◌++◌, Some, None, refl, sym, ap, subst, ◌∙◌, append_assoc}
 use Rattle.sx_tree.specs.declared.record.Kind.{Kind}
 use Rattle.sx_tree.specs.declared.record.Step.{Step}
-use Rattle.sx_model.specs.Tree.{Node, Forest, no_trees, tree_then, beside, numbers, size}
-use Rattle.sx_model.specs.Records.{Around, NodeRow, at_top, around_children, first_of, last_of, rows}
+use Rattle.sx_model.specs.Tree.{Node, Forest, no_trees, tree_then, beside, numbers}
+use Rattle.sx_model.specs.Records.{NodeRow, around_children, first_of, last_of, rows}
 use Rattle.sx_model.specs.Holes.{Frame, Shown, join, plug, filled, shown, shown_one, shown_by, around_hole, row_over, rows_before, rows_behind}
-use Rattle.sx_model.proofs.Holes.{or_none, shown-beside, shown-filled, rows-beside, rows-plug}
+use Rattle.sx_model.proofs.Holes.{or_none, shown-beside, shown-filled, rows-beside}
 use Rattle.sx_edit.specs.Holes.{numbers_before, AreNew, top_shown, whole}
 use Rattle.sx_edit.specs.Told.{AreDistinct, numbers_of}
 use Rattle.sx_edit.proofs.Climbing.{map-append, numbers-rows_before}
-use Rattle.sx_edit.proofs.Showing.{apart, any-parts}
+use Rattle.sx_edit.proofs.Showing.{apart}
 
 pub beside_assoc : (xs ys zs : Forest) → beside (beside xs ys) zs ≡ beside xs (beside ys zs)
 beside_assoc no_trees ys zs = refl

@@ -1,7 +1,6 @@
 -- What an edit answers over the records of a state.
 use Rattle.std.specs.Prelude.{◌≡◌, ℕ, ◌+◌, ◌≤◌, ◌<◌, All, Option, Some, Result, Ok, Err, length}
 use Rattle.sx_tree.specs.declared.edit.Edited.{Edited}
-use Rattle.sx_tree.specs.declared.edit.EditRefusal.{EditRefusal}
 use Rattle.sx_tree.specs.declared.edit.EditRefusal.TheVariants.{PathsSpent}
 use Rattle.sx_tree.specs.declared.record.NodeRecord.{NodeRecord}
 use Rattle.sx_view.specs.Records.{RecordMap}

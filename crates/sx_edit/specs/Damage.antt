@@ -1,5 +1,5 @@
 -- The rules that records of nodes keep, and what tells of one that is broken.
-use Rattle.std.specs.Prelude.{ℕ, ◌≡◌, ◌+◌, ◌^◌, ◌<◌, ◌≤◌, ◌⊎◌, List, ◌++◌, Option, None, replicate}
+use Rattle.std.specs.Prelude.{ℕ, ◌≡◌, ◌+◌, ◌^◌, ◌<◌, ◌⊎◌, List, ◌++◌, Option, None, replicate}
 use Rattle.std.specs.Int.{to_be_bytes, w64}
 use Rattle.sx_bytes.specs.declared.damage.Damage.{Damage}
 use Rattle.sx_view.specs.declared.fault.Fault.{Fault}

@@ -1,6 +1,5 @@
 -- The fault of a reading, as that of an edit; and what each answer of an edit says.
 use Rattle.std.specs.Prelude.{ℕ, Option}
-use Rattle.sx_tree.specs.declared.edit.EditRefusal.{EditRefusal}
 use Rattle.sx_view.specs.declared.fault.Fault.{Fault}
 use Rattle.sx_view.specs.declared.fault.Fault.TheVariants as faults
 use Rattle.sx_edit.specs.declared.fault.EditFault.{EditFault}

@@ -4,7 +4,7 @@ use Rattle.std.specs.List.{list_any}
 use Rattle.std.specs.Ordering.{nat_cmp, eq_by_cmp}
 use Rattle.sx_tree.specs.declared.record.Kind.{Kind}
 use Rattle.sx_tree.specs.declared.record.Step.{Step}
-use Rattle.sx_model.specs.Tree.{Forest, numbers}
+use Rattle.sx_model.specs.Tree.{numbers}
 use Rattle.sx_model.specs.Records.{NodeRow, rows}
 use Rattle.sx_model.specs.Holes.{Frame, Shown, around_hole, shown_by, frame_row, rows_before, rows_behind}
 

@@ -1,5 +1,5 @@
 -- What a tree that takes the place of another does to what stands around it.
-use Rattle.std.specs.Prelude.{◌≡◌, ℕ, ◌+◌, ◌-◌, ◌^◌, ◌<◌, ◌≤◌, List, [], ◌∷◌, ◌++◌, Option, None, Some}
+use Rattle.std.specs.Prelude.{◌≡◌, ℕ, ◌+◌, ◌-◌, ◌^◌, ◌<◌, ◌≤◌, List, ◌∷◌, ◌++◌, Option, None, Some}
 use Rattle.std.specs.Option.{option_or}
 use Rattle.sx_tree.specs.declared.record.Kind.{Kind}
 use Rattle.sx_tree.specs.declared.record.Step.{Step}

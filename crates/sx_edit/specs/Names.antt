@@ -1,10 +1,10 @@
 -- Keys of a name among siblings.
-use Rattle.std.specs.Prelude.{ℕ, ◌≡◌, ◌≤◌, ◌==◌, ◌&&◌, not, Bool, true, List, ◌++◌, find, Option, Some, None, option_map, bytes_eq}
+use Rattle.std.specs.Prelude.{ℕ, ◌≡◌, ◌≤◌, ◌==◌, ◌&&◌, not, Bool, List, ◌++◌, find, Option, Some, None, option_map, bytes_eq}
 use Rattle.sx_tree.specs.declared.record.Kind.{Kind}
 use Rattle.sx_tree.specs.declared.record.Step.{Step}
 use Rattle.sx_tree.specs.declared.record.NodeRecord.{NodeRecord}
 use Rattle.sx_view.specs.Records.{RecordMap}
-use Rattle.sx_model.specs.Tree.{Node, Forest, count, is_key, tops}
+use Rattle.sx_model.specs.Tree.{Forest, count, is_key, tops}
 use Rattle.sx_model.specs.Records.{NodeRow, Around, first_of, rows}
 use Rattle.sx_edit.specs.Told.{Shows}
 

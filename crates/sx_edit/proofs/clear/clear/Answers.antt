@@ -1,8 +1,7 @@
-use Rattle.std.proofs.Common.{◌≡◌, ◌-◌, ◌∙◌, ap, sym, subst, arith}
+use Rattle.std.proofs.Common.{◌∙◌, ap, arith}
 use Rattle.std.specs.Prelude.{option_map}
 use Rattle.std.specs.FinMap.{remove}
 use Rattle.sx_edit.specs.Clear.{with_top}
-use Rattle.sx_edit.specs.Told.{IsCleared}
 use Rattle.sx_edit.proofs.Results.{err_again}
 use Rattle.sx_edit.proofs.Going.{err-explains, goes_then}
 use Rattle.sx_edit.proofs.Clearing.{cleared-none, cleared-absent, cleared-step, cleared-stopped}

@@ -1,6 +1,5 @@
 use Rattle.std.proofs.Common.{sym, subst, IsUtf8, ◌∙◌}
 use Rattle.std.proofs.Math.Logic.{∥∥₁_map}
-use Rattle.sx_tree.specs.Number.{IsLiteral, IsNumber}
 use Rattle.sx_tree.proofs.NumberTexts.{IsUtf8-number, number_known}
 use Rattle.sx_edit.proofs.label.literal_text.Goals as goal
 

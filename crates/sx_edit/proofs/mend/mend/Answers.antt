@@ -1,7 +1,6 @@
 use Rattle.std.proofs.Common.{None}
-use Rattle.sx_edit.specs.Told.{Moment}
 use Rattle.sx_edit.proofs.Results.{err_again, on_ok-then, if_err-then}
-use Rattle.sx_edit.proofs.Going.{err-explains, goes_itself, goes_then}
+use Rattle.sx_edit.proofs.Going.{err-explains, goes_then}
 use Rattle.sx_edit.proofs.Siblings.{as_left, as_right, changed-untold}
 use Rattle.sx_edit.proofs.Mending.{adopted-untold, mended-lifted, mended-cannot_lift, mended-stopped, tree-fits}
 use Rattle.sx_edit.proofs.mend.mend.Goals as goal

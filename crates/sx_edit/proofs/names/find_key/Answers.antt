@@ -1,4 +1,4 @@
-use Rattle.std.proofs.Common.{◌+◌, ◌-◌, ◌∙◌, subst, sym, arith}
+use Rattle.std.proofs.Common.{◌+◌, ◌-◌, ◌∙◌, subst, arith}
 use Rattle.sx_edit.specs.Names.{FindsKey}
 use Rattle.sx_edit.proofs.Results.{err_again}
 use Rattle.sx_edit.proofs.Going.{err-explains, goes_then}

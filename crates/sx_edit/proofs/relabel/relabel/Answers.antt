@@ -1,5 +1,4 @@
-use Rattle.std.proofs.Common.{◌≡◌, ℕ, ◌+◌, ◌-◌, ◌≤◌, ◌∙◌, refl, sym, ap, arith}
-use Rattle.std.specs.Prelude.{◌%◌, ◌^◌}
+use Rattle.std.proofs.Common.{◌∙◌, refl, ap, arith}
 use Rattle.sx_model.specs.Hash.{local_hash}
 use Rattle.sx_edit.proofs.Results.{on_ok-then, if_err-then}
 use Rattle.sx_edit.proofs.Relabeling.{IsRenewed, relabeled-lifted, relabel-possible, difference}

@@ -3,7 +3,7 @@ use Rattle.sx_tree.specs.declared.record.Kind.TheVariants.{Key}
 use Rattle.sx_edit.specs.Edited.{IsRelabeled}
 use Rattle.sx_edit.specs.Answers.{AnswersEach}
 use Rattle.sx_edit.specs.Told.{Moment}
-use Rattle.sx_edit.proofs.Going.{goes_itself, goes_then}
+use Rattle.sx_edit.proofs.Going.{goes_itself}
 use Rattle.sx_edit.proofs.Answering.{err-answers, memory-answers, err-explains_edit, breach-explains_edit, untold-no_state, no-node}
 use Rattle.sx_edit.proofs.SettingScalars.{relabel-cannot}
 use Rattle.sx_edit.proofs.Splicing.{moved-there, parented}

@@ -1,4 +1,4 @@
-use Rattle.std.proofs.Common.{◌≡◌, ◌+◌, ◌≤◌, ◌∙◌, sym, ap, true, false, arith}
+use Rattle.std.proofs.Common.{◌∙◌, sym}
 use Rattle.sx_edit.specs.Told.{Moment}
 use Rattle.sx_edit.specs.Answers.{AnswersEach, GetsFew}
 use Rattle.sx_edit.proofs.Going.{goes_itself}

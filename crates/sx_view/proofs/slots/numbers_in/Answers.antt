@@ -1,4 +1,4 @@
-use Rattle.std.proofs.Common.{◌≡◌, ◌++◌, [], ◌∙◌, ap, map, refl, sym, append-nil}
+use Rattle.std.proofs.Common.{◌≡◌, ◌++◌, [], ◌∙◌, ap, map, sym, append-nil}
 use Rattle.sx_view.proofs.Numbering.{entries-held, filled}
 use Rattle.sx_view.proofs.slots.numbers_in.Goals as goal
 
