@@ -1,13 +1,14 @@
 //! Records in slots by their numbers.
 //!
 //! While there is a mark, a record that is dropped leaves its slot empty, so that putting it back needs no memory.
-ghost use Rattle.std.specs.Prelude.{◌≡◌, ℕ, true, [], if◌then◌else◌, is_some, nat_eq, reverse, OnErr, OnOk};
+ghost use Rattle.std.specs.Prelude.{◌≡◌, ℕ, true, [], if◌then◌else◌, is_some, nat_eq, reverse, IfOk, OnErr, OnOk};
 ghost use Rattle.std.specs.Option.{option_copied};
 ghost use Rattle.std.specs.FinMap as map;
 ghost use Rattle.sx_view.specs.Slots.{held, inside, rewound, with_slot, Rewinds, has_slot};
 
-use std::alloc::AllocError;
+use std::alloc::{AllocError, Global};
 use std::collections::BTreeMap;
+use sx_tree::numbers::Numbers;
 
 /// The slots.
 pub(crate) type Slots<R> = BTreeMap<u32, Option<R>>;
@@ -23,6 +24,19 @@ pub(crate) fn record_in<R>(slots: &Slots<R>, k: u32) -> Option<&R>
         Some(slot) => slot.as_ref(),
         None => None,
     }
+}
+
+/// The numbers of the records, in ascending order.
+pub(crate) fn numbers_in<R>(alloc: Global, slots: &Slots<R>) -> Result<Numbers, AllocError>
+    ensures { IfOk result (λ numbers. numbers ≡ map.keys (held slots.now.entries)) }
+{
+    let mut numbers = Numbers::new(alloc);
+    for (number, slot) in slots.iter() {
+        if slot.is_some() {
+            numbers.push(*number)?;
+        }
+    }
+    Ok(numbers)
 }
 
 /// Puts a slot, and notes the change at the end.

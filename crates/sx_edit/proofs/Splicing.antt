@@ -1,0 +1,185 @@
+-- A tree that goes, among the records of a state.
+use Rattle.std.proofs.Common.{◌≡◌, ℕ, suc, ◌+◌, ◌≤◌, Bool, true, false, List, [], ◌∷◌, ◌++◌, Option, Some, None, refl, sym, ap, subst, ◌∙◌, arith, append_assoc, add-zero}
+use Rattle.std.specs.Prelude.{◌^◌, Ok, Err, option_map}
+use Rattle.std.specs.Option.{ForSome}
+use Rattle.std.specs.FinMap as fin
+use Rattle.sx_tree.specs.declared.edit.EditRefusal.TheVariants.{WrongKind}
+use Rattle.sx_tree.specs.declared.record.NodeRecord.{NodeRecord}
+use Rattle.sx_view.specs.Records.{RecordMap}
+use Rattle.sx_view.specs.Rows.{row_of}
+use Rattle.sx_model.specs.Hash.{local_hash}
+use Rattle.sx_model.specs.Edit.{remove, apply, if_there, unless, wrong_kind, must_stay, paths_spent, with_trees}
+use Rattle.sx_model.specs.State.{State}
+use Rattle.sx_model.specs.Tree.{Node, Forest, no_trees, tree_then, beside, is_key, change_at, size}
+use Rattle.sx_model.specs.Records.{NodeRow, around_children, first_of, last_of, rows}
+use Rattle.sx_model.specs.Holes.{Frame, Shown, plug, shown, around_hole, frame_row, rows_before, rows_behind}
+use Rattle.sx_model.proofs.Holes.{rows-plug}
+use Rattle.sx_edit.specs.declared.fault.EditFault.TheVariants.{Refused}
+use Rattle.sx_edit.specs.declared.trees.Gap.{Gap}
+use Rattle.sx_edit.specs.declared.trees.Tree.{Tree}
+use Rattle.sx_edit.specs.Told.{Shows}
+use Rattle.sx_edit.specs.Mend.{IsMended, IsTakenOut, opened, shown_tree}
+use Rattle.sx_edit.specs.Edited.{no_path, rows_in}
+use Rattle.sx_edit.specs.Answers.{AnswersEach}
+use Rattle.sx_edit.proofs.Climbing.{some_is, holds-get}
+use Rattle.sx_edit.proofs.Standing.{new-whole, own_row, before_own, behind_own, rows-own}
+use Rattle.sx_edit.proofs.Relabeling.{deep-plug, size-beside}
+use Rattle.sx_edit.proofs.Seeking.{nodes_of}
+use Rattle.sx_edit.proofs.Looking.{IsSeen}
+use Rattle.sx_edit.proofs.Answering.{IsNoState, paths-room}
+use Rattle.sx_edit.proofs.SettingScalars.{seen}
+
+-- what is read of the node above a hole
+pub parent-there : (frames : List Frame) (frame : Frame) (inside : Forest) (there : Option NodeRecord) (o : Option (RecordMap NodeRecord)) → Shows o (rows_in (plug (frame ∷ frames) inside))
+    → ForSome o (λ m. fin.get m frame.node.number ≡ there) → option_map row_of there ≡ Some (frame_row local_hash no_path frames frame (shown local_hash inside))
+parent-there frames frame inside there o shows is =
+    let hole : List (ℕ × NodeRow) = rows local_hash no_path (around_hole (frame ∷ frames)) inside in
+    let all = subst (Shows o) (rows-plug local_hash no_path (frame ∷ frames) inside) shows in
+    let new = new-whole local_hash no_path (frame ∷ frames) (shown local_hash inside) hole all.distinct in
+    holds-get local_hash no_path o there frames frame (shown local_hash inside) hole new all.holds (λ m e. sym (is m e))
+
+-- its record has its kind
+pub parent-kind : (frames : List Frame) (frame : Frame) (inside : Forest) (p : NodeRecord) (o : Option (RecordMap NodeRecord)) → Shows o (rows_in (plug (frame ∷ frames) inside))
+    → ForSome o (λ m. fin.get m frame.node.number ≡ Some p) → p.kind ≡ frame.node.kind
+parent-kind frames frame inside p o shows there = ap (λ (w : NodeRow). w.kind) (some_is _ _ (parent-there frames frame inside (Some p) o shows there))
+
+-- and it is there
+pub has-parent : (frames : List Frame) (before : Forest) (n : Node) (below behind : Forest) (r : NodeRecord) (parent : ℕ) (o : Option (RecordMap NodeRecord))
+    → row_of r ≡ own_row local_hash no_path frames before n below behind → Shows o (rows_in (plug frames (beside before (tree_then n below behind))))
+    → r.parent ≡ Some parent → ForSome o (λ m. fin.get m parent ≡ None) → ⊥
+has-parent [] before n below behind r parent o row shows up none = let top : r.parent ≡ None = ap (λ (w : NodeRow). w.parent) row in absurd cc
+has-parent (frame ∷ frames) before n below behind r parent o row shows up none =
+    let above_is : r.parent ≡ Some frame.node.number = ap (λ (w : NodeRow). w.parent) row in
+    let same : parent ≡ frame.node.number = cc in
+    let both = parent-there frames frame (beside before (tree_then n below behind)) None o shows (rw same at none) in
+    absurd cc
+
+pub moved-there : (k : ℕ) (there : Option NodeRecord) (now before : Option (RecordMap NodeRecord)) → now ≡ before → ForSome now (λ m. fin.get m k ≡ there) → ForSome before (λ m. fin.get m k ≡ there)
+moved-there k there now before same is = subst (λ o. ForSome o (λ m. fin.get m k ≡ there)) same is
+
+-- whether a node must stay, by its record and its parent's
+pub must_stay-top : (frames : List Frame) (before : Forest) (n : Node) (below behind : Forest) (r : NodeRecord) → row_of r ≡ own_row local_hash no_path frames before n below behind
+    → r.parent ≡ None → must_stay (nodes_of frames) ≡ true
+must_stay-top [] before n below behind r row none = refl
+must_stay-top (frame ∷ frames) before n below behind r row none = absurd (let up : r.parent ≡ Some frame.node.number = ap (λ (w : NodeRow). w.parent) row in cc)
+
+pub must_stay-below : (frames : List Frame) (before : Forest) (n : Node) (below behind : Forest) (r p : NodeRecord) (parent : ℕ) (o : Option (RecordMap NodeRecord))
+    → row_of r ≡ own_row local_hash no_path frames before n below behind → Shows o (rows_in (plug frames (beside before (tree_then n below behind))))
+    → r.parent ≡ Some parent → ForSome o (λ m. fin.get m parent ≡ Some p) → must_stay (nodes_of frames) ≡ is_key p.kind
+must_stay-below [] before n below behind r p parent o row shows up there = absurd (let none : r.parent ≡ None = ap (λ (w : NodeRow). w.parent) row in cc)
+must_stay-below (frame ∷ frames) before n below behind r p parent o row shows up there =
+    let above_is : r.parent ≡ Some frame.node.number = ap (λ (w : NodeRow). w.parent) row in
+    let same : parent ≡ frame.node.number = cc in
+    ap is_key (sym (parent-kind frames frame (beside before (tree_then n below behind)) p o shows (rw same at there)))
+
+regrouped : (f b h l : List (ℕ × NodeRow)) → (f ++ b) ++ (h ++ l) ≡ f ++ ((b ++ h) ++ l)
+regrouped f b h l = simp append_assoc
+
+-- a tree was taken out, and what stands around the gap was mended
+pub spliced-out : (frames : List Frame) (before : Forest) (n : Node) (below behind : Forest) (k next parent : ℕ) (r : NodeRecord) (gap : Gap) (tree : Tree) (o mid after : Option (RecordMap NodeRecord))
+    → n.number ≡ k → row_of r ≡ own_row local_hash no_path frames before n below behind → size (plug frames (beside before (tree_then n below behind))) ≤ next → next ≤ 2 ^ 30
+    → r.parent ≡ Some parent → gap.parent ≡ parent → gap.left ≡ r.left → gap.right ≡ r.right → tree.number ≡ k → tree.nodes ≡ r.descendants + 1 → tree.hash ≡ r.hash
+    → IsTakenOut k r.first next o mid → IsMended next gap (Some tree) None mid after
+    → Shows o (rows_in (plug frames (beside before (tree_then n below behind)))) → Shows after (rows_in (plug frames (beside before behind)))
+unfolding IsTakenOut IsMended
+spliced-out [] before n below behind k next parent r gap tree o mid after same row few fits up gap_parent gap_left gap_right number nodes hash taken mended shows =
+    absurd (let none : r.parent ≡ None = ap (λ (w : NodeRow). w.parent) row in cc)
+spliced-out (frame ∷ frames) before n below behind k next parent r gap tree o mid after same row few fits up gap_parent gap_left gap_right number nodes hash taken mended shows =
+    let inside : Forest = beside before (tree_then n below behind) in
+    let a : Shown = shown local_hash inside in
+    let own = subst (Shows o) (rows-plug local_hash no_path (frame ∷ frames) inside ∙ rows-own local_hash no_path (frame ∷ frames) a before n below behind) shows in
+    let first : first_of below ≡ r.first = sym (ap (λ (w : NodeRow). w.first) row) in
+    let deep = deep-plug (frame ∷ frames) inside in
+    let parts = size-beside before (tree_then n below behind) in
+    let own_k = subst (λ q. Shows o (before_own local_hash no_path (frame ∷ frames) a before n.number ++ (q, own_row local_hash no_path (frame ∷ frames) before n below behind)
+    ∷ (rows local_hash no_path (around_children (around_hole (frame ∷ frames)) n) below ++ behind_own local_hash no_path (frame ∷ frames) a n.number behind))) same own in
+    let gone = taken local_hash no_path (around_children (around_hole (frame ∷ frames)) n) below (own_row local_hash no_path (frame ∷ frames) before n below behind)
+    (before_own local_hash no_path (frame ∷ frames) a before n.number) (behind_own local_hash no_path (frame ∷ frames) a n.number behind) first refl (omega arith) own_k in
+    let in_gap : Shows mid (opened local_hash no_path frames frame before (tree_then n below no_trees) no_trees behind) =
+    subst (Shows mid) (regrouped (rows_before local_hash no_path (frame ∷ frames) a) _ _ (rows_behind local_hash no_path (frame ∷ frames) a)) gone in
+    let above_is : r.parent ≡ Some frame.node.number = ap (λ (w : NodeRow). w.parent) row in
+    let parent_is : frame.node.number ≡ gap.parent = cc in
+    let left_is : last_of before ≡ gap.left = sym (gap_left ∙ ap (λ (w : NodeRow). w.left) row) in
+    let right_is : first_of behind ≡ gap.right = sym (gap_right ∙ ap (λ (w : NodeRow). w.right) row) in
+    let number_is : n.number ≡ tree.number = same ∙ sym number in
+    let down : r.descendants ≡ size below = ap (λ (w : NodeRow). w.descendants) row in
+    let nodes_is : suc (size below) + 0 ≡ tree.nodes = omega arith in
+    let hash_at : r.hash ≡ (own_row local_hash no_path (frame ∷ frames) before n below behind).hash = ap (λ (w : NodeRow). w.hash) row in
+    let hash_is : (own_row local_hash no_path (frame ∷ frames) before n below behind).hash + 0 ≡ tree.hash = add-zero _ ∙ sym hash_at ∙ sym hash in
+    let shown_is : shown local_hash (tree_then n below no_trees) ≡ shown_tree (Some tree) =
+    λ i. record { first = Some (number_is i); last = Some (number_is i); trees = 1; nodes = nodes_is i; hashes = hash_is i } in
+    mended local_hash no_path frames frame before (tree_then n below no_trees) no_trees behind parent_is left_is right_is shown_is refl few (omega arith) in_gap
+
+module _ (k next : ℕ) (r : NodeRecord) where
+  -- the edit of a state with the node, but for whether it must stay
+  remove-apply : (state : State) (o : Option (RecordMap NodeRecord)) (s : IsSeen k state o r) (b : Bool) → must_stay (nodes_of s.at.around) ≡ b
+      → let new : State = with_trees state 0 (change_at k (λ n below rest. rest) state.trees) in
+      apply (remove k) state ≡ unless (wrong_kind b s.at.node ∷ paths_spent state new ∷ []) new
+  remove-apply state o s b is =
+      let new : State = with_trees state 0 (change_at k (λ n below rest. rest) state.trees) in
+      ap (if_there k (λ q. unless (wrong_kind (must_stay q.above) q.node ∷ paths_spent state new ∷ []) new)) s.at.spot
+      ∙ ap (λ (b : Bool). unless (wrong_kind b s.at.node ∷ paths_spent state new ∷ []) new) is
+
+  remove-stays : (before after : Option (RecordMap NodeRecord)) (state : State) (s : IsSeen k state before r) → must_stay (nodes_of s.at.around) ≡ true
+      → apply (remove k) state ≡ Err (WrongKind k r.kind)
+  remove-stays before after state s is = remove-apply state before s true is ∙ (λ i. Err (WrongKind (s.at.number i) (sym (ap (λ (w : NodeRow). w.kind) s.row) i)))
+
+  pub remove-top : (before after : Option (RecordMap NodeRecord)) → ForSome before (λ m. fin.get m k ≡ Some r) → r.parent ≡ None
+      → AnswersEach (remove k) next before after (Err (Refused (WrongKind k r.kind)))
+  unfolding AnswersEach
+  remove-top before after there none state are paths =
+      let s = seen k state next before r are there in
+      remove-stays before after state s (must_stay-top s.at.around s.at.left s.at.node s.at.below s.at.right r s.row none)
+
+  pub remove-value : (before after : Option (RecordMap NodeRecord)) (p : NodeRecord) (parent : ℕ) → ForSome before (λ m. fin.get m k ≡ Some r) → r.parent ≡ Some parent
+      → ForSome before (λ m. fin.get m parent ≡ Some p) → is_key p.kind ≡ true → AnswersEach (remove k) next before after (Err (Refused (WrongKind k r.kind)))
+  unfolding AnswersEach
+  remove-value before after p parent there up there_p key state are paths =
+      let s = seen k state next before r are there in
+      remove-stays before after state s (must_stay-below s.at.around s.at.left s.at.node s.at.below s.at.right r p parent before s.row s.shows up there_p ∙ key)
+
+  pub remove-done : (before now mid after : Option (RecordMap NodeRecord)) (p : NodeRecord) (parent : ℕ) (gap : Gap) (tree : Tree) → ForSome before (λ m. fin.get m k ≡ Some r) → r.parent ≡ Some parent
+      → ForSome before (λ m. fin.get m parent ≡ Some p) → is_key p.kind ≡ false → now ≡ before → next ≤ 2 ^ 30
+      → gap.parent ≡ parent → gap.left ≡ r.left → gap.right ≡ r.right → tree.number ≡ k → tree.nodes ≡ r.descendants + 1 → tree.hash ≡ r.hash
+      → IsTakenOut k r.first next now mid → IsMended next gap (Some tree) None mid after
+      → AnswersEach (remove k) next before after (Ok (record { first = None; next = next }))
+  unfolding AnswersEach
+  remove-done before now mid after p parent gap tree there up there_p key same fits gap_parent gap_left gap_right number nodes hash taken mended state are paths =
+      let s = seen k state next before r are there in
+      let goes = must_stay-below s.at.around s.at.left s.at.node s.at.below s.at.right r p parent before s.row s.shows up there_p ∙ key in
+      let new_state : State = with_trees state 0 (change_at k (λ n below rest. rest) state.trees) in
+      let is_apply = remove-apply state before s false goes in
+      let room = paths-room _ _ new_state (λ q e. paths q (is_apply ∙ e)) in
+      let few : size (plug s.at.around (beside s.at.left (tree_then s.at.node s.at.below s.at.right))) ≤ next = subst (λ t. size t ≤ next) s.at.stands are.few in
+      let taken_before : IsTakenOut k r.first next before mid = rw same at taken in
+      let shows = spliced-out s.at.around s.at.left s.at.node s.at.below s.at.right k next parent r gap tree before mid after s.at.number s.row few fits up gap_parent gap_left gap_right number nodes hash taken_before mended s.shows in
+      let number_is : next ≡ state.next + 0 = omega (arith, are.next_is) in
+      (new_state, is_apply ∙ room, (λ i. record { first = None; next = number_is i }), (subst (λ t. Shows after (rows_in t)) (sym (s.at.changed (λ n below rest. rest))) shows).holds)
+
+  -- a damage on the way
+  pub remove-cannot : (before now mid : Option (RecordMap NodeRecord)) (parent : ℕ) (gap : Gap) (tree : Tree) → ForSome before (λ m. fin.get m k ≡ Some r) → r.parent ≡ Some parent → now ≡ before → next ≤ 2 ^ 30
+      → gap.parent ≡ parent → gap.left ≡ r.left → gap.right ≡ r.right → tree.number ≡ k → tree.nodes ≡ r.descendants + 1 → tree.hash ≡ r.hash
+      → IsTakenOut k r.first next now mid → IsMended next gap (Some tree) None mid None → IsNoState next before
+  unfolding IsNoState
+  remove-cannot before now mid parent gap tree there up same fits gap_parent gap_left gap_right number nodes hash taken mended state are =
+      let s = seen k state next before r are there in
+      let few : size (plug s.at.around (beside s.at.left (tree_then s.at.node s.at.below s.at.right))) ≤ next = subst (λ t. size t ≤ next) s.at.stands are.few in
+      let taken_before : IsTakenOut k r.first next before mid = rw same at taken in
+      (spliced-out s.at.around s.at.left s.at.node s.at.below s.at.right k next parent r gap tree before mid None s.at.number s.row few fits up gap_parent gap_left gap_right number nodes hash taken_before mended s.shows).holds
+
+  -- a node's parent is there, and its nodes can be counted
+  pub parented : (before : Option (RecordMap NodeRecord)) (parent : ℕ) → ForSome before (λ m. fin.get m k ≡ Some r) → r.parent ≡ Some parent → ForSome before (λ m. fin.get m parent ≡ None) → IsNoState next before
+  unfolding IsNoState
+  parented before parent there up none state are =
+      let s = seen k state next before r are there in
+      has-parent s.at.around s.at.left s.at.node s.at.below s.at.right r parent before s.row s.shows up none
+
+  pub countable : (before : Option (RecordMap NodeRecord)) → next ≤ 2 ^ 30 → ForSome before (λ m. fin.get m k ≡ Some r) → 2 ^ 32 ≤ r.descendants + 1 → IsNoState next before
+  unfolding IsNoState
+  countable before fits there many state are =
+      let s = seen k state next before r are there in
+      let few : size (plug s.at.around (beside s.at.left (tree_then s.at.node s.at.below s.at.right))) ≤ next = subst (λ t. size t ≤ next) s.at.stands are.few in
+      let down : r.descendants ≡ size s.at.below = ap (λ (w : NodeRow). w.descendants) s.row in
+      let deep = deep-plug s.at.around (beside s.at.left (tree_then s.at.node s.at.below s.at.right)) in
+      let parts = size-beside s.at.left (tree_then s.at.node s.at.below s.at.right) in
+      omega arith

@@ -1,0 +1,39 @@
+use Rattle.std.proofs.Common.{◌+◌, ◌-◌, ◌∙◌, subst, arith}
+use Rattle.sx_edit.specs.Names.{FindsKey}
+use Rattle.sx_edit.proofs.Results.{err_again}
+use Rattle.sx_edit.proofs.Going.{err-explains, goes_then}
+use Rattle.sx_edit.proofs.Naming.{finds-none, finds-absent, finds-here, finds-next, finds-endless}
+use Rattle.sx_edit.proofs.names.find_key.Goals as goal
+
+pub returns-in_default-clause-found : goal.returns-in_default-clause-found
+returns-in_default-clause-found g c = c.loop-turn.invariant.finds _ (finds-none _ _ _ _ _ c.in_default.is)
+
+pub returns-in-None-clause-found : goal.returns-in-None-clause-found
+returns-in-None-clause-found g c = c.loop-turn.invariant.finds _ (finds-none _ _ _ _ _ c.in-None.is)
+
+pub returns-in-Some-at-clause-cannot : goal.returns-in-Some-at-clause-cannot
+returns-in-Some-at-clause-cannot g c = λ _. c.loop-turn.invariant.finds _ (finds-endless _ _ _ _ _ _ c.in-Some-at.is (omega arith))
+
+pub returns-in_err-entry-clause-cannot : goal.returns-in_err-entry-clause-cannot
+returns-in_err-entry-clause-cannot g c =
+    err_again c.from_residual.result _ _ c.from_residual.ensures.1
+    (λ is. c.loop-turn.invariant.finds _ (finds-absent _ _ _ _ _ _ c.in-Some.is (c.in_err-entry.ensures.absent is)))
+
+pub returns-in_err-entry-clause-fault : goal.returns-in_err-entry-clause-fault
+returns-in_err-entry-clause-fault g c =
+    err-explains g.N.Records.told g.N.Records.faults g.N.RecordsMut.has_mark g.N.RecordsMut.marks c.args.next _ c.loop-turn.nodes _ c.from_residual.result _ c.from_residual.ensures.1
+    c.loop-turn.invariant.goes_on (c.in_err-entry.ensures.fault c.args.next)
+
+pub returns-then-is_named-clause-found : goal.returns-then-is_named-clause-found
+returns-then-is_named-clause-found g c = c.loop-turn.invariant.finds _ (finds-here _ _ _ _ _ c.in_ok-entry.entry _ c.in-Some.is c.in_ok-entry.ensures.found (cc))
+
+pub loop-turn-preserved : goal.loop-turn-preserved
+loop-turn-preserved g c =
+    let told = g.N.Records.told in
+    record {
+      finds = λ answer rest. c.loop-turn.invariant.finds answer
+          (finds-next _ _ _ _ _ _ c.in_ok-entry.entry _ answer c.in-Some.is c.in_ok-entry.ensures.found (cc) (omega arith)
+          (subst (λ o. FindsKey c.args.except c.args.name.now c.in_ok-entry.entry.right (c.args.next - (c.loop-turn._turn + 1)) o answer) c.in_ok-entry.ensures.same rest));
+      same = c.in_ok-entry.ensures.same ∙ c.loop-turn.invariant.same;
+      goes_on = goes_then told g.N.Records.faults g.N.RecordsMut.has_mark g.N.RecordsMut.marks _ _ _ c.loop-turn.invariant.goes_on c.in_ok-entry.ensures.goes_on;
+    }

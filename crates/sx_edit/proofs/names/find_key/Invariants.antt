@@ -1,0 +1,15 @@
+use Rattle.std.proofs.Common.{◌≡◌, ℕ, ◌-◌, Option}
+use Rattle.sx_edit.specs.Names.{FindsKey}
+use Rattle.sx_edit.specs.Steps.{GoesOn}
+use Rattle.sx_edit.proofs.names.find_key.Given as goal
+
+-- what is left to find is all that is left to show
+abbrev pub invariant-loop-turn : goal.invariant-loop-turn
+invariant-loop-turn g l =
+    let told = g.N.Records.told in
+    record {
+      finds : (answer : Option (Option ℕ)) → FindsKey l.fn.except l.fn.name l.at (l.fn.next - l._turn) (told l.nodes) answer
+          → FindsKey l.fn.except l.fn.name l.fn.first l.fn.next (told l.fn.nodes) answer;
+      same : told l.nodes ≡ told l.fn.nodes;
+      goes_on : GoesOn told g.N.Records.faults g.N.RecordsMut.has_mark g.N.RecordsMut.marks l.fn.nodes l.nodes;
+    }

@@ -1,0 +1,15 @@
+-- Numbers of trees that are to go.
+use Rattle.std.specs.Prelude.{ℕ, List, [], ◌∷◌, map, reverse, Option, Some, None}
+use Rattle.sx_edit.specs.declared.clear.Link.{Link}
+
+-- with one more number to clear, where there is one
+abbrev pub with_top : Option ℕ → List ℕ → List ℕ
+with_top None ks = ks
+with_top (Some k) ks = k ∷ ks
+
+abbrev pub first_tops : Option ℕ → List ℕ
+first_tops first = with_top first []
+
+-- the numbers to which the links lead, that of the last link first
+abbrev pub tops_of : List Link → List ℕ
+tops_of links = map (λ link. link.to) (reverse links)

@@ -1,0 +1,54 @@
+-- The rules that records of nodes keep, and what tells of one that is broken.
+use Rattle.std.specs.Prelude.{ℕ, ◌≡◌, ◌+◌, ◌^◌, ◌<◌, ◌⊎◌, List, ◌++◌, Option, None, replicate}
+use Rattle.std.specs.Int.{to_be_bytes, w64}
+use Rattle.sx_bytes.specs.declared.damage.Damage.{Damage}
+use Rattle.sx_view.specs.declared.fault.Fault.{Fault}
+use Rattle.sx_view.specs.declared.fault.Fault.TheVariants.{Failed, Damaged, OutOfMemory}
+use Rattle.sx_edit.specs.declared.damage.TheConstants.{BROKEN_LINK, ENDLESS, MISPLACED}
+
+-- a rule that is broken, the value or bound that it asks for, and the value that stands there
+pub record Breach : Type 0 where
+  pub rule : ℕ
+  pub kept : ℕ
+  pub found : ℕ
+
+-- a number as 32 bytes, the highest first
+abbrev pub wide : ℕ → List ℕ
+wide n = replicate 24 0 ++ to_be_bytes w64 n
+
+-- what tells of it
+abbrev pub damage_of : Breach → Damage
+damage_of breach = record { place = 0; rule = breach.rule; kept = wide breach.kept; found = wide breach.found }
+
+-- The values contradict the rule, in an edit before which the next new node would get this number: a link leads from one
+-- node to another; links lead on after as many nodes as that number; a count has left its type, or a kind cannot stand below
+-- another.
+abbrev pub Contradicts : ℕ → Breach → Type 0
+Contradicts next breach =
+    ((breach.rule ≡ BROKEN_LINK) × (breach.kept < 2 ^ 32) × (breach.found < 2 ^ 32))
+    ⊎ (((breach.rule ≡ ENDLESS) × (breach.kept ≡ next) × (breach.found ≡ next + 1))
+    ⊎ ((breach.rule ≡ MISPLACED) × (breach.kept < 2 ^ 32) × (breach.found < 2 ^ 33)))
+
+-- what is told breaks one of the rules
+unfoldable pub IsBreach : ℕ → Damage → Type 0
+IsBreach next damage = (breach : Breach) × (damage ≡ damage_of breach) × Contradicts next breach
+
+-- Damage is told where the records are not, by the object below, or else by a rule with values that contradict it.
+abbrev pub IsDamage : {T : Type 0} → ℕ → Option T → Damage → Type 0
+IsDamage next told damage = (told ≡ None) ⊎ IsBreach next damage
+
+-- Failed comes only where the faults of the object below rose.
+abbrev pub Explains : {T : Type 0} → ℕ → Option T → Type 0 → Fault → Type 0
+Explains next told rose Failed = rose
+Explains next told rose (Damaged damage) = IsDamage next told damage
+Explains next told rose OutOfMemory = Unit {0}
+
+abbrev pub IsDamaged : Fault → Type 0
+IsDamaged Failed = ⊥
+IsDamaged (Damaged damage) = Unit {0}
+IsDamaged OutOfMemory = ⊥
+
+abbrev pub IsBreachFault : ℕ → Fault → Type 0
+IsBreachFault next Failed = ⊥
+IsBreachFault next (Damaged damage) = IsBreach next damage
+IsBreachFault next OutOfMemory = ⊥

@@ -1,0 +1,20 @@
+-- The fault of a reading, as that of an edit; and what each answer of an edit says.
+use Rattle.std.specs.Prelude.{ℕ, Option}
+use Rattle.sx_view.specs.declared.fault.Fault.{Fault}
+use Rattle.sx_view.specs.declared.fault.Fault.TheVariants as faults
+use Rattle.sx_edit.specs.declared.fault.EditFault.{EditFault}
+use Rattle.sx_edit.specs.declared.fault.EditFault.TheVariants.{Refused, Failed, Damaged, OutOfMemory}
+use Rattle.sx_edit.specs.Damage.{IsDamage}
+
+abbrev pub edit_fault : Fault → EditFault
+edit_fault faults.Failed = Failed
+edit_fault (faults.Damaged damage) = Damaged damage
+edit_fault faults.OutOfMemory = OutOfMemory
+
+-- Failed comes only where the faults of the object below rose, and Damaged only where nothing is told or by a rule with values
+-- that contradict it.
+abbrev pub ExplainsEdit : {T : Type 0} → ℕ → Option T → Type 0 → EditFault → Type 0
+ExplainsEdit next told rose (Refused refusal) = Unit {0}
+ExplainsEdit next told rose Failed = rose
+ExplainsEdit next told rose (Damaged damage) = IsDamage next told damage
+ExplainsEdit next told rose OutOfMemory = Unit {0}

@@ -1,0 +1,10 @@
+pub mod Answers
+pub mod Clear
+pub mod Damage
+pub mod EditFault
+pub mod Edited
+pub mod Holes
+pub mod Mend
+pub mod Names
+pub mod Told
+pub mod Steps

@@ -1,0 +1,90 @@
+-- What a tree that takes the place of another does to what stands around it.
+use Rattle.std.specs.Prelude.{◌≡◌, ℕ, ◌+◌, ◌-◌, ◌^◌, ◌<◌, ◌≤◌, List, ◌∷◌, ◌++◌, Option, None, Some}
+use Rattle.std.specs.Option.{option_or}
+use Rattle.sx_tree.specs.declared.record.Kind.{Kind}
+use Rattle.sx_tree.specs.declared.record.Step.{Step}
+use Rattle.sx_tree.specs.declared.record.NodeRecord.{NodeRecord}
+use Rattle.sx_view.specs.Records.{RecordMap}
+use Rattle.sx_model.specs.Tree.{Forest, beside, size}
+use Rattle.sx_model.specs.Records.{NodeRow, Around, at_top, around_children, first_of, last_of, rows}
+use Rattle.sx_model.specs.Holes.{Frame, Shown, plug, shown, around_hole, rows_before, rows_behind}
+use Rattle.sx_edit.specs.Told.{Shows}
+use Rattle.sx_edit.specs.declared.trees.Gap.{Gap}
+use Rattle.sx_edit.specs.declared.trees.Tree.{Tree}
+
+abbrev pub number_of_tree : Option Tree → Option ℕ
+number_of_tree None = None
+number_of_tree (Some tree) = Some tree.number
+
+abbrev pub trees_of_tree : Option Tree → ℕ
+trees_of_tree None = 0
+trees_of_tree (Some tree) = 1
+
+abbrev pub nodes_of_tree : Option Tree → ℕ
+nodes_of_tree None = 0
+nodes_of_tree (Some tree) = tree.nodes
+
+abbrev pub hash_of_tree : Option Tree → ℕ
+hash_of_tree None = 0
+hash_of_tree (Some tree) = tree.hash
+
+-- what the tree shows, or none
+abbrev pub shown_tree : Option Tree → Shown
+shown_tree tree = record {
+  first = number_of_tree tree;
+  last = number_of_tree tree;
+  trees = trees_of_tree tree;
+  nodes = nodes_of_tree tree;
+  hashes = hash_of_tree tree;
+}
+
+-- the end of a list of children: where nothing stands on this side of the gap, it is the other one now
+abbrev pub end : Option ℕ → Option ℕ → Option ℕ → Option ℕ
+end None other old = other
+end (Some n) other old = old
+
+-- the parent's row, once the new tree took the old one's place in the gap
+abbrev pub adopted : Gap → Option Tree → Option Tree → NodeRow → NodeRow
+adopted gap old new w = record w {
+  first = end gap.left (option_or (number_of_tree new) gap.right) w.first;
+  last = end gap.right (option_or (number_of_tree new) gap.left) w.last;
+  children = w.children + trees_of_tree new - trees_of_tree old;
+}
+
+-- The row of the node is another now, where its children can be so many more and so many fewer, and all else is as it was. Where
+-- nothing is told afterwards, there was no such row.
+unfoldable pub IsAdopted : ℕ → ℕ → ℕ → (NodeRow → NodeRow) → Option (RecordMap NodeRecord) → Option (RecordMap NodeRecord) → Type 0
+IsAdopted k plus minus change before after =
+    (xs ys : List (ℕ × NodeRow)) (w : NodeRow) → w.children + plus < 2 ^ 32 → minus ≤ w.children + plus
+    → Shows before (xs ++ (k, w) ∷ ys) → Shows after (xs ++ (k, change w) ∷ ys)
+
+module _ (local : Kind → List ℕ → ℕ) (number : List Step → ℕ) where
+  -- the rows of all trees, with the new ones' rows in the gap already, while all else is as it was with the old ones
+  abbrev pub opened : List Frame → Frame → Forest → Forest → Forest → Forest → List (ℕ × NodeRow)
+  opened frames frame before old new behind =
+      let around : Around = around_children (around_hole frames) frame.node in
+      let was : Shown = shown local (beside before (beside old behind)) in
+      rows_before local number (frame ∷ frames) was
+      ++ ((rows local number (record around { right = option_or (first_of old) (first_of behind) }) before
+      ++ (rows local number (record around { left = last_of before; right = first_of behind }) new
+      ++ rows local number (record around { left = option_or (last_of old) (last_of before) }) behind))
+      ++ rows_behind local number (frame ∷ frames) was)
+
+-- Where the new tree's rows stood in the gap already, the rows are those of the trees with the new tree in the old one's place, for
+-- all trees of at most so many nodes. Where nothing is told afterwards, there were no such trees.
+unfoldable pub IsMended : ℕ → Gap → Option Tree → Option Tree → Option (RecordMap NodeRecord) → Option (RecordMap NodeRecord) → Type 0
+IsMended next gap old new o after =
+    (local : Kind → List ℕ → ℕ) (number : List Step → ℕ) (frames : List Frame) (frame : Frame) (before olds news behind : Forest)
+    → frame.node.number ≡ gap.parent → last_of before ≡ gap.left → first_of behind ≡ gap.right
+    → shown local olds ≡ shown_tree old → shown local news ≡ shown_tree new
+    → size (plug (frame ∷ frames) (beside before (beside olds behind))) ≤ next → next + nodes_of_tree new < 2 ^ 31
+    → Shows o (opened local number frames frame before olds news behind)
+    → Shows after (rows local number at_top (plug (frame ∷ frames) (beside before (beside news behind))))
+
+-- The rows of the node and of the trees below it, which begin with this one, are gone, and all else is as it was. Where nothing is
+-- told afterwards, there were no such rows.
+unfoldable pub IsTakenOut : ℕ → Option ℕ → ℕ → Option (RecordMap NodeRecord) → Option (RecordMap NodeRecord) → Type 0
+IsTakenOut k first limit before after =
+    (local : Kind → List ℕ → ℕ) (number : List Step → ℕ) (around : Around) (below : Forest) (w : NodeRow) (xs ys : List (ℕ × NodeRow))
+    → first_of below ≡ first → around.right ≡ None → size below ≤ limit
+    → Shows before (xs ++ (k, w) ∷ (rows local number around below ++ ys)) → Shows after (xs ++ ys)

@@ -1,0 +1,80 @@
+//! Records that are read, written and taken away.
+ghost use Rattle.std.specs.Prelude.{◌≡◌, ◌+◌, ◌≤◌, ℕ, None, Some, IfErr, IfOk, OnOk, option_map};
+ghost use Rattle.std.specs.Option.{ForSome};
+ghost use Rattle.std.specs.FinMap as map;
+ghost use Rattle.sx_outside.specs.Faults.{Rose};
+ghost use Rattle.sx_edit.specs.Damage.{Explains, IsDamaged};
+ghost use Rattle.sx_edit.specs.Steps.{GoesOn};
+ghost use Rattle.sx_view.specs.declared.fault.Fault.TheVariants.{OutOfMemory};
+
+use crate::damage::broken_link;
+use std::alloc::Global;
+use sx_tree::record::NodeRecord;
+use sx_view::{Fault, RecordsMut};
+
+/// The record of the node, where there is one.
+pub(crate) fn read<N: RecordsMut<NodeRecord>>(
+    alloc: Global,
+    nodes: &mut N,
+    node: u32,
+) -> Result<Option<NodeRecord>, Fault>
+    ensures found { IfOk result (λ found. ForSome (N.told nodes.old) (λ records. found ≡ map.get records node)) }
+    ensures same { N.told nodes.new ≡ N.told nodes.old }
+    ensures goes_on { GoesOn N.told N.faults N.has_mark N.marks nodes.old nodes.new }
+    ensures gets { N.gets nodes.new ≤ N.gets nodes.old + 1 }
+    ensures fault { (next : ℕ) → IfErr result (Explains next (N.told nodes.old) (Rose (N.faults nodes.old) (N.faults nodes.new))) }
+    ensures untold { IfErr result (λ fault. IsDamaged fault → N.told nodes.old ≡ None) }
+{
+    nodes.get(alloc, node)
+}
+
+/// The record of a node to which a link of another one leads.
+pub(crate) fn read_linked<N: RecordsMut<NodeRecord>>(
+    alloc: Global,
+    nodes: &mut N,
+    from: u32,
+    to: u32,
+) -> Result<NodeRecord, Fault>
+    ensures found { IfOk result (λ found. ForSome (N.told nodes.old) (λ records. map.get records to ≡ Some found)) }
+    ensures same { N.told nodes.new ≡ N.told nodes.old }
+    ensures goes_on { GoesOn N.told N.faults N.has_mark N.marks nodes.old nodes.new }
+    ensures gets { N.gets nodes.new ≤ N.gets nodes.old + 1 }
+    ensures fault { (next : ℕ) → IfErr result (Explains next (N.told nodes.old) (Rose (N.faults nodes.old) (N.faults nodes.new))) }
+    ensures absent { IfErr result (λ fault. IsDamaged fault → ForSome (N.told nodes.old) (λ records. map.get records to ≡ None)) }
+{
+    match read(alloc, nodes, to)? {
+        Some(record) => Ok(record),
+        None => Err(Fault::Damaged(broken_link(from, to))),
+    }
+}
+
+/// Gives the node the record.
+pub(crate) fn write<N: RecordsMut<NodeRecord>>(
+    alloc: Global,
+    nodes: &mut N,
+    node: u32,
+    entry: NodeRecord,
+) -> Result<(), Fault>
+    ensures ok { OnOk result (N.told nodes.new ≡ option_map (λ records. map.insert records node entry) (N.told nodes.old)) }
+    ensures same_gets { N.gets nodes.new ≡ N.gets nodes.old }
+    ensures goes_on { GoesOn N.told N.faults N.has_mark N.marks nodes.old nodes.new }
+    ensures fault { IfErr result (λ fault. fault ≡ OutOfMemory) }
+{
+    nodes.put(alloc, node, entry)?;
+    Ok(())
+}
+
+/// Takes the node's record away.
+pub(crate) fn erase<N: RecordsMut<NodeRecord>>(
+    alloc: Global,
+    nodes: &mut N,
+    node: u32,
+) -> Result<(), Fault>
+    ensures ok { OnOk result (N.told nodes.new ≡ option_map (λ records. map.remove records node) (N.told nodes.old)) }
+    ensures same_gets { N.gets nodes.new ≡ N.gets nodes.old }
+    ensures goes_on { GoesOn N.told N.faults N.has_mark N.marks nodes.old nodes.new }
+    ensures fault { IfErr result (λ fault. fault ≡ OutOfMemory) }
+{
+    nodes.drop_record(alloc, node)?;
+    Ok(())
+}

@@ -1,0 +1,45 @@
+//! Another scalar in a scalar's place.
+ghost use Rattle.std.specs.Prelude.{◌≡◌, IfErr, OnOk};
+ghost use Rattle.sx_outside.specs.Faults.{Rose};
+ghost use Rattle.sx_model.specs.Edit as model;
+ghost use Rattle.sx_edit.specs.Answers.{AnswersEach, GetsFew};
+ghost use Rattle.sx_edit.specs.EditFault.{ExplainsEdit};
+ghost use Rattle.sx_edit.specs.Steps.{GoesOn};
+
+use crate::fault::EditFault;
+use crate::kinds::is_scalar;
+use crate::label::scalar_label;
+use crate::reads::read;
+use crate::relabel::relabel;
+use std::alloc::Global;
+use sx_tree::edit::{EditRefusal, Edited};
+use sx_tree::json::Scalar;
+use sx_tree::record::NodeRecord;
+use sx_view::RecordsMut;
+
+/// The scalar node keeps its number and has this scalar. On a fault the records may be half changed.
+pub(crate) fn set_scalar<N: RecordsMut<NodeRecord>>(
+    alloc: Global,
+    nodes: &mut N,
+    next: u32,
+    node: u32,
+    value: &Scalar,
+) -> Result<Edited, EditFault>
+    ensures answers { AnswersEach (model.set_scalar node value.now) next (N.told nodes.old) (N.told nodes.new) result }
+    ensures gets { OnOk result (GetsFew node next (N.told nodes.old) (N.gets nodes.old) (N.gets nodes.new)) }
+    ensures goes_on { GoesOn N.told N.faults N.has_mark N.marks nodes.old nodes.new }
+    ensures fault { IfErr result (ExplainsEdit next (N.told nodes.old) (Rose (N.faults nodes.old) (N.faults nodes.new))) }
+{
+    let Some(entry) = read(alloc, nodes, node)? else {
+        return Err(EditFault::Refused(EditRefusal::NoNode { node }));
+    };
+    if !is_scalar(entry.kind) {
+        return Err(EditFault::Refused(EditRefusal::WrongKind {
+            node,
+            kind: entry.kind,
+        }));
+    }
+    let label = scalar_label(alloc, value)?;
+    relabel(alloc, nodes, next, node, entry, label)?;
+    Ok(Edited { first: None, next })
+}
