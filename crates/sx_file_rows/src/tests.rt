@@ -33,6 +33,7 @@ const CALLS: [(Call<'static>, &[u8]); 9] = [
 fn a_real_file_goes_as_one_in_memory(rt: HostRuntime) -> Result<(), Fail> {
     let alloc = rt.alloc();
     let mut memory = in_memory(alloc, b"", &[])?;
+    fs::write(&rt, "calls.sirix", "")?;
     let (mut volume, _ends) = opened(&rt, alloc, "calls.sirix", 0)?;
     for (call, want) in CALLS {
         make(&rt, alloc, &mut memory, call, want)?;
@@ -104,7 +105,9 @@ fn a_read_only_file_is_refused(rt: HostRuntime) -> Result<(), Fail> {
     // Who may write anything is refused nothing.
     let may = may_write(&rt, "read-only.sirix");
     assert_eq!(rt; open(&rt, rt.alloc(), "read-only.sirix", 1).is_ok(), may);
-    has(&rt, "read-only.sirix", b"log")
+    has(&rt, "read-only.sirix", b"log")?;
+    fs::remove_file(&rt, "read-only.sirix")?;
+    Ok(())
 }
 
 #[test]
