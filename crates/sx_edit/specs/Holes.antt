@@ -23,7 +23,8 @@ abbrev pub above : List Frame → Option ℕ
 above [] = None
 above (frame ∷ frames) = Some frame.node.number
 
--- the trees that show the second, where others showed the first, have so many nodes more and so many fewer, and hashes that are more by d
+-- the trees that show the second, where others showed the first, have so many nodes more and so many fewer, and hashes
+-- that are more by d
 pub record IsShift (plus : ℕ) (minus : ℕ) (d : ℕ) (old : Shown) (new : Shown) : Type 0 where
   pub nodes : new.nodes + minus ≡ old.nodes + plus
   pub hashes : new.hashes % 2 ^ 128 ≡ (old.hashes + d) % 2 ^ 128

@@ -51,7 +51,8 @@ adopted gap old new w = record w {
   children = w.children + trees_of_tree new - trees_of_tree old;
 }
 
--- The row of the node is another now, where its children can be so many more and so many fewer, and all else is as it was. Where
+-- The row of the node is another now, where its children can be so many more and so many fewer, and all else is as it
+-- was. Where
 -- nothing is told afterwards, there was no such row.
 unfoldable pub IsAdopted : ℕ → ℕ → ℕ → (NodeRow → NodeRow) → Option (RecordMap NodeRecord) → Option (RecordMap NodeRecord) → Type 0
 IsAdopted k plus minus change before after =
@@ -70,7 +71,8 @@ module _ (local : Kind → List ℕ → ℕ) (number : List Step → ℕ) where
       ++ rows local number (record around { left = option_or (last_of old) (last_of before) }) behind))
       ++ rows_behind local number (frame ∷ frames) was)
 
--- Where the new tree's rows stood in the gap already, the rows are those of the trees with the new tree in the old one's place, for
+-- Where the new tree's rows stood in the gap already, the rows are those of the trees with the new tree in the old
+-- one's place, for
 -- all trees of at most so many nodes. Where nothing is told afterwards, there were no such trees.
 unfoldable pub IsMended : ℕ → Gap → Option Tree → Option Tree → Option (RecordMap NodeRecord) → Option (RecordMap NodeRecord) → Type 0
 IsMended next gap old new o after =
@@ -81,7 +83,8 @@ IsMended next gap old new o after =
     → Shows o (opened local number frames frame before olds news behind)
     → Shows after (rows local number at_top (plug (frame ∷ frames) (beside before (beside news behind))))
 
--- The rows of the node and of the trees below it, which begin with this one, are gone, and all else is as it was. Where nothing is
+-- The rows of the node and of the trees below it, which begin with this one, are gone, and all else is as it was. Where
+-- nothing is
 -- told afterwards, there were no such rows.
 unfoldable pub IsTakenOut : ℕ → Option ℕ → ℕ → Option (RecordMap NodeRecord) → Option (RecordMap NodeRecord) → Type 0
 IsTakenOut k first limit before after =

@@ -12,7 +12,8 @@ use Rattle.sx_edit.specs.Told.{Shows}
 abbrev pub is_sought : ℕ → List ℕ → ℕ → Kind → List ℕ → Bool
 is_sought except name number kind label = not (number == except) && (is_key kind && bytes_eq label name)
 
--- The answer is the first such Key among the trees that begin with this number, where they are so many at most. No answer is true
+-- The answer is the first such Key among the trees that begin with this number, where they are so many at most. No
+-- answer is true
 -- of no trees alone.
 unfoldable pub FindsKey : ℕ → List ℕ → Option ℕ → ℕ → Option (RecordMap NodeRecord) → Option (Option ℕ) → Type 0
 FindsKey except name first limit o answer =

@@ -73,6 +73,10 @@ pub record Moment : Type 0 where
   pub told : Option (RecordMap NodeRecord)
   pub gets : ℕ
 
+-- what an object tells now, and how many gets were made of it
+abbrev pub moment_of : {V : Type 0} → (V → Option (RecordMap NodeRecord)) → (V → ℕ) → V → Moment
+moment_of told gets nodes = record { told = told nodes; gets = gets nodes }
+
 -- Where the records held the rows of trees with the old ones in a hole below the node, they now hold those with the new ones,
 -- for all trees of which so many nodes are more and so many fewer, and whose hashes are d more. Each node above the hole was
 -- got once.
@@ -83,7 +87,8 @@ IsLifted node plus minus d before after =
     → Holds before.told (whole local number frames old hole)
     → Holds after.told (whole local number frames new hole) × (after.gets ≤ before.gets + length frames)
 
--- The records hold the rows of no trees with a hole below the node that leave room for so many nodes more, and in which the hole is that deep at most.
+-- The records hold the rows of no trees with a hole below the node that leave room for so many nodes more, and in which
+-- the hole is that deep at most.
 unfoldable pub CannotLift : Option ℕ → ℕ → ℕ → ℕ → Option (RecordMap NodeRecord) → Type 0
 CannotLift node plus minus levels before =
     (local : Kind → List ℕ → ℕ) (number : List Step → ℕ) (frames : List Frame) (old : Shown) (hole : List (ℕ × NodeRow))

@@ -58,7 +58,8 @@ fn literal_text(alloc: Global, literal: &Literal) -> Result<Text, AllocError>
 
 /// The kind and the label of a scalar.
 pub(crate) fn scalar_label(alloc: Global, value: &Scalar) -> Result<Label, AllocError>
-    ensures { IfOk result (λ label. (k : ℕ) → scalar_node k value.now ≡ record { number = k; kind = label.kind; label = label.text }) }
+    ensures { IfOk result (λ label. (k : ℕ)
+        → scalar_node k value.now ≡ record { number = k; kind = label.kind; label = label.text }) }
 {
     match value {
         Scalar::Str(content) => {

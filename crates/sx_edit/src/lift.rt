@@ -3,7 +3,7 @@ ghost use Rattle.std.specs.Prelude.{◌≡◌, ◌-◌, ◌≤◌, ◌<◌, ◌^
 ghost use Rattle.sx_outside.specs.Faults.{Rose};
 ghost use Rattle.sx_edit.specs.Damage.{Explains, IsDamaged};
 ghost use Rattle.sx_edit.specs.Steps.{GoesOn};
-ghost use Rattle.sx_edit.specs.Told.{CannotLift, IsLifted, Moment};
+ghost use Rattle.sx_edit.specs.Told.{CannotLift, IsLifted, moment_of};
 
 use crate::damage::{endless, misplaced};
 use crate::reads::{read_linked, write};
@@ -43,7 +43,8 @@ pub(crate) fn lift<N: RecordsMut<NodeRecord>>(
     node: Option<u32>,
     shift: Shift,
 ) -> Result<(), Fault>
-    ensures done { let before : Moment = record { told = N.told nodes.old; gets = N.gets nodes.old } in let after : Moment = record { told = N.told nodes.new; gets = N.gets nodes.new } in OnOk result (IsLifted node shift.plus shift.minus shift.hash before after) }
+    ensures done { OnOk result (IsLifted node shift.plus shift.minus shift.hash
+        (moment_of N.told N.gets nodes.old) (moment_of N.told N.gets nodes.new)) }
     ensures cannot { IfErr result (λ fault. IsDamaged fault → CannotLift node shift.plus shift.minus next (N.told nodes.old)) }
     ensures goes_on { GoesOn N.told N.faults N.has_mark N.marks nodes.old nodes.new }
     ensures fault { IfErr result (Explains next (N.told nodes.old) (Rose (N.faults nodes.old) (N.faults nodes.new))) }

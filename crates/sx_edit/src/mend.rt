@@ -26,9 +26,11 @@ fn link_right<N: RecordsMut<NodeRecord>>(
 ) -> Result<(), Fault>
     requires { IsLink right }
     ensures done { OnOk result (IsChanged node (λ w. record w { right = right }) (N.told nodes.old) (N.told nodes.new)) }
-    ensures cannot { IfErr result (λ fault. IsDamaged fault → IsChanged node (λ w. record w { right = right }) (N.told nodes.old) None) }
+    ensures cannot { IfErr result (λ fault. IsDamaged fault → IsChanged node (λ w. record w { right = right })
+        (N.told nodes.old) None) }
     ensures goes_on { GoesOn N.told N.faults N.has_mark N.marks nodes.old nodes.new }
-    ensures fault { (next : ℕ) → IfErr result (Explains next (N.told nodes.old) (Rose (N.faults nodes.old) (N.faults nodes.new))) }
+    ensures fault { (next : ℕ) → IfErr result (Explains next (N.told nodes.old) (Rose (N.faults nodes.old)
+        (N.faults nodes.new))) }
 {
     let Some(number) = node else {
         return Ok(());
@@ -48,9 +50,11 @@ fn link_left<N: RecordsMut<NodeRecord>>(
 ) -> Result<(), Fault>
     requires { IsLink left }
     ensures done { OnOk result (IsChanged node (λ w. record w { left = left }) (N.told nodes.old) (N.told nodes.new)) }
-    ensures cannot { IfErr result (λ fault. IsDamaged fault → IsChanged node (λ w. record w { left = left }) (N.told nodes.old) None) }
+    ensures cannot { IfErr result (λ fault. IsDamaged fault → IsChanged node (λ w. record w { left = left })
+        (N.told nodes.old) None) }
     ensures goes_on { GoesOn N.told N.faults N.has_mark N.marks nodes.old nodes.new }
-    ensures fault { (next : ℕ) → IfErr result (Explains next (N.told nodes.old) (Rose (N.faults nodes.old) (N.faults nodes.new))) }
+    ensures fault { (next : ℕ) → IfErr result (Explains next (N.told nodes.old) (Rose (N.faults nodes.old)
+        (N.faults nodes.new))) }
 {
     let Some(number) = node else {
         return Ok(());
@@ -69,10 +73,14 @@ fn adopt<N: RecordsMut<NodeRecord>>(
     new: Option<Tree>,
 ) -> Result<(), Fault>
     requires { IsLink (number_of_tree new) }
-    ensures done { OnOk result (IsAdopted gap.parent (trees_of_tree new) (trees_of_tree old) (adopted gap old new) (N.told nodes.old) (N.told nodes.new)) }
-    ensures cannot { IfErr result (λ fault. IsDamaged fault → IsAdopted gap.parent (trees_of_tree new) (trees_of_tree old) (adopted gap old new) (N.told nodes.old) None) }
+    ensures done { OnOk result (IsAdopted gap.parent (trees_of_tree new) (trees_of_tree old) (adopted gap old new)
+        (N.told nodes.old) (N.told nodes.new)) }
+    ensures cannot { IfErr result (λ fault. IsDamaged fault
+        → IsAdopted gap.parent (trees_of_tree new) (trees_of_tree old) (adopted gap old new)
+        (N.told nodes.old) None) }
     ensures goes_on { GoesOn N.told N.faults N.has_mark N.marks nodes.old nodes.new }
-    ensures fault { (next : ℕ) → IfErr result (Explains next (N.told nodes.old) (Rose (N.faults nodes.old) (N.faults nodes.new))) }
+    ensures fault { (next : ℕ) → IfErr result (Explains next (N.told nodes.old) (Rose (N.faults nodes.old)
+        (N.faults nodes.new))) }
 {
     let mut entry = read_linked(alloc, nodes, gap.parent, gap.parent)?;
     let count = u64::from(entry.children) + u64::from(count_of(new));

@@ -22,7 +22,8 @@ pub(crate) fn read<N: RecordsMut<NodeRecord>>(
     ensures same { N.told nodes.new ≡ N.told nodes.old }
     ensures goes_on { GoesOn N.told N.faults N.has_mark N.marks nodes.old nodes.new }
     ensures gets { N.gets nodes.new ≤ N.gets nodes.old + 1 }
-    ensures fault { (next : ℕ) → IfErr result (Explains next (N.told nodes.old) (Rose (N.faults nodes.old) (N.faults nodes.new))) }
+    ensures fault { (next : ℕ) → IfErr result (Explains next (N.told nodes.old) (Rose (N.faults nodes.old)
+        (N.faults nodes.new))) }
     ensures untold { IfErr result (λ fault. IsDamaged fault → N.told nodes.old ≡ None) }
 {
     nodes.get(alloc, node)
@@ -39,7 +40,8 @@ pub(crate) fn read_linked<N: RecordsMut<NodeRecord>>(
     ensures same { N.told nodes.new ≡ N.told nodes.old }
     ensures goes_on { GoesOn N.told N.faults N.has_mark N.marks nodes.old nodes.new }
     ensures gets { N.gets nodes.new ≤ N.gets nodes.old + 1 }
-    ensures fault { (next : ℕ) → IfErr result (Explains next (N.told nodes.old) (Rose (N.faults nodes.old) (N.faults nodes.new))) }
+    ensures fault { (next : ℕ) → IfErr result (Explains next (N.told nodes.old) (Rose (N.faults nodes.old)
+        (N.faults nodes.new))) }
     ensures absent { IfErr result (λ fault. IsDamaged fault → ForSome (N.told nodes.old) (λ records. map.get records to ≡ None)) }
 {
     match read(alloc, nodes, to)? {

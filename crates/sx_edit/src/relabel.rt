@@ -5,7 +5,7 @@ ghost use Rattle.std.specs.FinMap as map;
 ghost use Rattle.sx_outside.specs.Faults.{Rose};
 ghost use Rattle.sx_edit.specs.Damage.{Explains, IsDamaged};
 ghost use Rattle.sx_edit.specs.Steps.{GoesOn};
-ghost use Rattle.sx_edit.specs.Told.{Moment};
+ghost use Rattle.sx_edit.specs.Told.{moment_of};
 ghost use Rattle.sx_edit.specs.Edited.{CannotRelabel, IsRelabeled};
 
 use crate::label::Label;
@@ -26,7 +26,8 @@ pub(crate) fn relabel<N: RecordsMut<NodeRecord>>(
     label: Label,
 ) -> Result<(), Fault>
     requires { ForSome (N.told nodes.old) (λ records. map.get records node ≡ Some entry) }
-    ensures done { let before : Moment = record { told = N.told nodes.old; gets = N.gets nodes.old } in let after : Moment = record { told = N.told nodes.new; gets = N.gets nodes.new } in OnOk result (IsRelabeled node label.kind label.text before after) }
+    ensures done { OnOk result (IsRelabeled node label.kind label.text (moment_of N.told N.gets nodes.old)
+        (moment_of N.told N.gets nodes.new)) }
     ensures cannot { IfErr result (λ fault. IsDamaged fault → CannotRelabel node next (N.told nodes.old)) }
     ensures goes_on { GoesOn N.told N.faults N.has_mark N.marks nodes.old nodes.new }
     ensures fault { IfErr result (Explains next (N.told nodes.old) (Rose (N.faults nodes.old) (N.faults nodes.new))) }

@@ -22,7 +22,8 @@ use sx_view::{Fault, RecordsMut};
 
 /// The tree of a node, whose record this is.
 pub(crate) fn tree_of(node: u32, entry: &NodeRecord) -> Result<Tree, Fault>
-    ensures tree { IfOk result (λ tree. (tree.number ≡ node) × (tree.nodes ≡ entry.now.descendants + 1) × (tree.hash ≡ entry.now.hash)) }
+    ensures tree { IfOk result (λ tree. (tree.number ≡ node) × (tree.nodes ≡ entry.now.descendants + 1)
+        × (tree.hash ≡ entry.now.hash)) }
     ensures many { IfErr result (λ fault. 2 ^ 32 ≤ entry.now.descendants + 1) }
     ensures fault { (next : ℕ) → IfErr result (IsBreachFault next) }
 {
