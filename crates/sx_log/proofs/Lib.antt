@@ -1,9 +1,4 @@
-pub mod Behind
-pub mod Groups
-pub mod Moments
-pub mod Shown
-pub mod Rules
 pub mod Placed
-pub mod Fronts
-pub mod Opened
-pub mod Given
+pub mod Parts
+pub mod Finding
+pub mod Made

@@ -1,4 +1,4 @@
-pub mod Keeps
-pub mod Row
-pub mod Reading
-pub mod Written
+pub mod Room
+pub mod Calls
+pub mod Finding
+pub mod Creating

@@ -3,13 +3,22 @@ use sx_bytes::Damage;
 use sx_outside::Failed;
 use thiserror::Error;
 
-/// Why a volume was not opened.
+/// Why a volume was not made or opened.
 #[derive(Clone, Copy, Debug, PartialEq, Eq, Error)]
 pub enum LogFault {
     /// A call of the volume failed.
     #[error("the volume failed")]
     Failed,
-    /// A group breaks a rule.
+    /// The volume is neither born nor unborn, and this is its first byte.
+    #[error("not a volume of this program, first byte {first}")]
+    NotOurs { first: u8 },
+    /// There is no birth part yet.
+    #[error("the volume is not born")]
+    Unborn,
+    /// There is a birth part already.
+    #[error("the volume is born already")]
+    Born,
+    /// The birth part or a group breaks a rule.
     #[error("damaged at {}, rule {}", .0.place, .0.rule)]
     Damaged(Damage),
     #[error("out of memory")]
@@ -49,36 +58,13 @@ impl<T: Drop> From<AllocFailed<T>> for LogFault {
     }
 }
 
-/// Why a commit was not accepted.
+/// Why a commit has no room.
 #[derive(Clone, Copy, Debug, PartialEq, Eq, Error)]
-pub enum CommitFault {
-    /// A call of the volume failed. In stage 1 it is the cut, the append or the sync that keep the group behind the
-    /// closed gate, in stage 2 the gate's byte or its sync. The log is not to be used any more.
-    #[error("the volume failed in stage {stage} of a commit")]
-    Failed { stage: u8 },
-    /// Nothing was done.
-    #[error("out of memory")]
-    OutOfMemory,
-}
-
-impl From<AllocError> for CommitFault {
-    ghost use Rattle.std.specs.Prelude.{◌≡◌};
-    ghost use Rattle.sx_log.specs.declared.fault.CommitFault.TheVariants.{OutOfMemory};
-
-    ghost from_gives = { λ _ e. e ≡ OutOfMemory };
-
-    fn from(_: AllocError) -> Self {
-        CommitFault::OutOfMemory
-    }
-}
-
-impl<T: Drop> From<AllocFailed<T>> for CommitFault {
-    ghost use Rattle.std.specs.Prelude.{◌≡◌};
-    ghost use Rattle.sx_log.specs.declared.fault.CommitFault.TheVariants.{OutOfMemory};
-
-    ghost from_gives = { λ _ e. e ≡ OutOfMemory };
-
-    fn from(_: AllocFailed<T>) -> Self {
-        CommitFault::OutOfMemory
-    }
+pub enum RoomFault {
+    /// There would be more than 16,777,216 frames or revisions. These are the numbers so far.
+    #[error("the log is full, with {frames} frames and {revisions} revisions")]
+    LogFull { frames: u32, revisions: u32 },
+    /// The group would have more than 268,435,456 bytes. These are the bytes that it would have.
+    #[error("a commit of {bytes} bytes is too large")]
+    CommitTooLarge { bytes: u64 },
 }

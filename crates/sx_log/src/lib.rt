@@ -1,14 +1,14 @@
-//! The log on a volume: groups, one a commit, each behind a gate that is opened when the group is safe.
+//! The log on a volume: a birth part, and groups of frames behind it, one a commit, each behind a gate that is opened when the
+//! group is safe.
 #![tactic(auto)]
 
+mod birth;
+mod creation;
 mod fault;
-mod group;
-mod head;
-mod log;
-mod opening;
+mod limits;
 mod reading;
-mod steps;
 
-pub use fault::{CommitFault, LogFault};
-pub use log::Log;
-pub use opening::open;
+pub use birth::Birth;
+pub use creation::create;
+pub use fault::{LogFault, RoomFault};
+pub use limits::room;

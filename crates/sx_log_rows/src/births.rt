@@ -1,12 +1,12 @@
 //! Volumes are made: what the calls leave, and which volumes are unborn.
 ghost use Rattle.std.specs.Prelude.{IfOk};
-ghost use Rattle.sx_newlog.specs.Creating.{CanBeBorn};
-ghost use Rattle.sx_newlog.specs.Shown.{birth_of};
+ghost use Rattle.sx_log.specs.Creating.{CanBeBorn};
+ghost use Rattle.sx_log.specs.Shown.{birth_of};
 
 use sha2::{Digest, Sha256};
 use std::alloc::{AllocError, Global};
 use std::test::Fail;
-use sx_newlog::{Birth, LogFault, create};
+use sx_log::{Birth, LogFault, create};
 use sx_tree::text::Text;
 use sx_volume::{FuseVolume, MemVolume};
 

@@ -1,6 +1,6 @@
 //! The room of a log at its limits.
 use std::test::Fail;
-use sx_newlog::{RoomFault, room};
+use sx_log::{RoomFault, room};
 
 #[test]
 fn room_at_its_limits(rt: HostRuntime) -> Result<(), Fail> {

@@ -5,7 +5,7 @@ use Rattle.std.proofs.lemmas.Bool.Decides.{leb_tells}
 use Rattle.std.proofs.lemmas.List.{append_cancel_left}
 use Rattle.sx_layout.specs.Group.{Group, HasGroups, Holds, opened, end_of, last_time}
 use Rattle.sx_layout.specs.Stands.{Stands, group_of, groups_from, groups_of}
-use Rattle.sx_log.specs.Reading.{IsLeft, IsSynced}
+use Rattle.sx_plain.specs.Reading.{IsLeft, IsSynced}
 use Rattle.sx_model.specs.Commit.{Commit, AreLegal, IsLegal, first_time, replay}
 use Rattle.sx_model.specs.Edit.{after}
 use Rattle.sx_model.specs.NumberDocuments.{AreOfNumbers}

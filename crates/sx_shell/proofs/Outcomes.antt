@@ -3,9 +3,9 @@ use Rattle.std.proofs.Common.{◌≡◌, ◌∙◌, ◌≤◌, ℕ, ℤ, ◌⊎�
 use Rattle.sx_bytes.specs.declared.damage.Damage.{Damage}
 use Rattle.std.specs.Option.{option_map}
 use Rattle.sx_layout.specs.Stands.{Stands}
-use Rattle.sx_log.specs.Reading.{IsOther, IsSynced, IsUnsynced}
-use Rattle.sx_log.specs.declared.fault.LogFault.{LogFault}
-use Rattle.sx_log.specs.declared.fault.LogFault.TheVariants as log
+use Rattle.sx_plain.specs.Reading.{IsOther, IsSynced, IsUnsynced}
+use Rattle.sx_plain.specs.declared.fault.LogFault.{LogFault}
+use Rattle.sx_plain.specs.declared.fault.LogFault.TheVariants as log
 use Rattle.sx_model.specs.Commit.{Commit, IsLegal}
 use Rattle.sx_model.specs.NumberDocuments.{AreOfNumbers}
 use Rattle.sx_run.proofs.Legal.{IsLegalCourse, GoesOn, step_legal, run_legal}

@@ -1,11 +1,11 @@
 ghost use Rattle.std.specs.Prelude.{◌≡◌, ◌≢◌, ◌<◌, ◌≤◌, ◌++◌, ◌↔◌, ◌⊎◌, [], List, ℕ, ℤ, Option, Some, IfSome, IfErr, OnOk, OnErr, IsErrOf, is_some, length, map, slice_get, vec_len, Err};
 ghost use Rattle.std.specs.String.{string_bytes};
 ghost use Rattle.sx_outside.specs.Faults.{Rose};
-ghost use Rattle.sx_log.specs.Keeps.{Keeps};
+ghost use Rattle.sx_plain.specs.Keeps.{Keeps};
 ghost use Rattle.sx_bytes.specs.declared.damage.Damage.{Damage};
 ghost use Rattle.sx_layout.specs.Damage.{IsDamaged};
 ghost use Rattle.sx_layout.specs.Stands.{Stands};
-ghost use Rattle.sx_log.specs.Reading.{Explains};
+ghost use Rattle.sx_plain.specs.Reading.{Explains};
 ghost use Rattle.sx_model.specs.Commit.{Commit};
 ghost use Rattle.sx_run.specs.Run.{Course, Step, started};
 ghost use Rattle.sx_shell.specs.Crash.{ClimbsFrom, During, Failing, GrowsByOne, IsSafe, IsUnopened};
@@ -25,7 +25,7 @@ use crate::words::is_live;
 use crate::write::write_all;
 use std::alloc::Global;
 use std::sync::Wait;
-use sx_log::LogFault;
+use sx_plain::LogFault;
 use sx_outside::{Clock, Gate, Sink, Source};
 use sx_volume::Volume;
 
@@ -80,7 +80,7 @@ pub fn run_live<R: Wait, V: Volume, S: Source, K: Sink, C: Clock, G: Gate>(
     if !is_live(words) {
         return Status::Usage;
     }
-    let log = match sx_log::open(alloc, volume) {
+    let log = match sx_plain::open(alloc, volume) {
         Ok(log) => log,
         Err(LogFault::Failed) => return Status::VolumeFault,
         Err(LogFault::Damaged(damage)) => return Status::Damaged(damage),

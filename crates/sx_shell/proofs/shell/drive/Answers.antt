@@ -1,6 +1,6 @@
 use Rattle.std.proofs.Common.{◌≡◌, ◌≢◌, ◌∙◌, ℕ, List, Option, None, Some, IfSome, is_some, refl, arith, rules}
 use Rattle.sx_layout.specs.Group.{Group, HasGroups}
-use Rattle.sx_log.specs.Keeps.{Keeps}
+use Rattle.sx_plain.specs.Keeps.{Keeps}
 use Rattle.sx_shell.specs.declared.status.Status.{Status}
 use Rattle.sx_shell.specs.declared.status.Status.TheVariants.{OutOfMemory, VolumeFault}
 use Rattle.sx_shell.specs.Waiting.{waiting}

@@ -1,5 +1,5 @@
 use Rattle.std.proofs.Common.{◌≡◌, ◌≤◌, List, ℕ, None, Some, is_some}
-use Rattle.sx_log.specs.Keeps.{Keeps}
+use Rattle.sx_plain.specs.Keeps.{Keeps}
 use Rattle.sx_run.specs.Run.{Course}
 use Rattle.sx_shell.specs.Crash.{ClimbsFrom}
 use Rattle.sx_shell.specs.Progress.{Progress}

@@ -6,7 +6,7 @@ use Rattle.sx_run.specs.Run.{Course, started}
 use Rattle.sx_shell.proofs.Crashes.{safe_run, safe_none}
 use Rattle.sx_shell.proofs.Outcomes.{at_told, when_told, told_from, started_legal, outcome_legal, failed_or_not, refused, not_other, found_damage}
 use Rattle.sx_shell.proofs.Standing.{stands_at_end}
-use Rattle.sx_log.specs.Reading.{opened_bytes}
+use Rattle.sx_plain.specs.Reading.{opened_bytes}
 use Rattle.sx_shell.specs.Outcome.{CommitFailed}
 use Rattle.sx_shell.specs.declared.desk.Desk.{Desk}
 use Rattle.sx_shell.specs.declared.status.Status.TheVariants as status

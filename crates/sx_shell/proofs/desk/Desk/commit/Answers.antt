@@ -7,9 +7,9 @@ use Rattle.sx_shell.specs.Crash.{next_group}
 use Rattle.sx_shell.specs.declared.desk.Desk.{Desk}
 use Rattle.std.specs.Int.{int_max}
 use Rattle.sx_layout.specs.Group.{Group, last_time}
-use Rattle.sx_log.specs.Row.{group_of}
-use Rattle.sx_log.specs.declared.fault.CommitFault.{CommitFault}
-use Rattle.sx_log.specs.declared.fault.CommitFault.TheVariants.{Failed}
+use Rattle.sx_plain.specs.Row.{group_of}
+use Rattle.sx_plain.specs.declared.fault.CommitFault.{CommitFault}
+use Rattle.sx_plain.specs.declared.fault.CommitFault.TheVariants.{Failed}
 use Rattle.sx_model.specs.Commit.{first_time}
 use Rattle.sx_shell.proofs.desk.Desk.commit.Goals as goal
 

@@ -1,4 +1,0 @@
-pub mod Placed
-pub mod Parts
-pub mod Finding
-pub mod Made

@@ -1,0 +1,16 @@
+use Rattle.std.proofs.Common.{◌≡◌, ◌∙◌, ap, sym, ◌-◌, length, slice_get, Some, List, map}
+use Rattle.sx_layout.specs.Group.{Group, last_next}
+use Rattle.sx_plain.proofs.Shown.{last-shown}
+use Rattle.sx_plain.specs.Row.{shown}
+use Rattle.sx_model.specs.Commit.{first_time}
+use Rattle.sx_plain.specs.declared.group.Row.{Row}
+use Rattle.sx_plain.proofs.log.Log.last_next.Goals as goal
+
+pub returns-in-Some : goal.returns-in-Some
+returns-in-Some c =
+    let rows : List Row = c.deref.result.now in
+    let at : Some c.in-Some.row.now ≡ slice_get rows (length rows - 1) = c.in-Some.ensures.value in
+    let last = last-shown first_time 1 rows c.in-Some.row.now at in
+    let groups = ap (λ (list : List Row). last_next 1 (map shown list)) c.deref.ensures.value
+    ∙ ap (λ (list : List Group). last_next 1 list) c.self.view_is in
+    sym last.1 ∙ groups

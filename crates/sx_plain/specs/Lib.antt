@@ -1,0 +1,4 @@
+pub mod Keeps
+pub mod Row
+pub mod Reading
+pub mod Written
