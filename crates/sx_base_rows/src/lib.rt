@@ -15,3 +15,5 @@ mod records;
 mod texts;
 #[cfg(test)]
 mod trees;
+#[cfg(test)]
+mod volumes;

@@ -59,25 +59,3 @@ impl ReadEnd for MemEnd {
         Ok(())
     }
 }
-
-#[cfg(test)]
-mod tests {
-    use super::*;
-    use crate::{MemVolume, Volume};
-    use std::test::Fail;
-
-    #[test]
-    fn a_spot_keeps_its_bytes(rt: HostRuntime) -> Result<(), Fail> {
-        let alloc = rt.alloc();
-        let mut volume = MemVolume::new(alloc, b"log".to_vec(alloc)?, Vec::new(alloc))?;
-        let spot = volume.spot(alloc, 1, 2)?;
-        volume.ready(alloc, 1)?;
-        volume.put_byte(1, b'a')?;
-        let mut end = MemEnd::new([2].to_vec(alloc)?);
-        let mut room = [0; 2];
-        end.read(&spot, &mut room)?;
-        assert_eq!(rt; room.as_slice(), b"og".as_slice());
-        assert_eq!(rt; end.read(&spot, &mut room), Err(Failed));
-        Ok(())
-    }
-}
