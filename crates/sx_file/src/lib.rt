@@ -1,4 +1,8 @@
 //! The volume over a file.
+//!
+//! `File` is what a volume asks of a file, with what a disk keeps of it, and `FileVolume` is the volume over any such file.
+//! Two files are here: the one in memory, which tells all, and std's, `StdFile`, which tells nothing and is the one place
+//! where the program's bytes meet the system. `open` opens a real file, and locks it.
 #![tactic(auto)]
 
 mod file;
