@@ -6,6 +6,6 @@ mod damage;
 mod fields;
 mod fields_out;
 
-pub use damage::Damage;
+pub use damage::{Damage, number_damage};
 pub use fields::Fields;
 pub use fields_out::FieldsOut;

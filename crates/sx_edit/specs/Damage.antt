@@ -1,6 +1,6 @@
 -- The rules that records of nodes keep, and what tells of one that is broken.
-use Rattle.std.specs.Prelude.{ℕ, ◌≡◌, ◌+◌, ◌^◌, ◌<◌, ◌⊎◌, List, ◌++◌, Option, None, replicate}
-use Rattle.std.specs.Int.{to_be_bytes, w64}
+use Rattle.std.specs.Prelude.{ℕ, ◌≡◌, ◌+◌, ◌^◌, ◌<◌, ◌⊎◌, Option, None}
+use Rattle.sx_bytes.specs.Damage.{number_damage}
 use Rattle.sx_bytes.specs.declared.damage.Damage.{Damage}
 use Rattle.sx_view.specs.declared.fault.Fault.{Fault}
 use Rattle.sx_view.specs.declared.fault.Fault.TheVariants.{Failed, Damaged, OutOfMemory}
@@ -12,13 +12,9 @@ pub record Breach : Type 0 where
   pub kept : ℕ
   pub found : ℕ
 
--- a number as 32 bytes, the highest first
-abbrev pub wide : ℕ → List ℕ
-wide n = replicate 24 0 ++ to_be_bytes w64 n
-
 -- what tells of it
 abbrev pub damage_of : Breach → Damage
-damage_of breach = record { place = 0; rule = breach.rule; kept = wide breach.kept; found = wide breach.found }
+damage_of breach = number_damage 0 breach.rule breach.kept breach.found
 
 -- The values contradict the rule, in an edit before which the next new node would get this number: a link leads from one
 -- node to another; links lead on after as many nodes as that number; a count has left its type, or a kind cannot stand below

@@ -1,8 +1,8 @@
 //! What is told of records that are those of no document.
 ghost use Rattle.std.specs.Prelude.{◌≡◌, ◌^◌, ◌<◌, ℕ};
-ghost use Rattle.sx_edit.specs.Damage.{Breach, IsBreach, damage_of, wide};
+ghost use Rattle.sx_edit.specs.Damage.{IsBreach};
 
-use sx_bytes::Damage;
+use sx_bytes::{Damage, number_damage};
 
 /// A link leads to a node that has no record.
 pub const BROKEN_LINK: u8 = 23;
@@ -13,39 +13,18 @@ pub const ENDLESS: u8 = 24;
 /// A kind cannot stand where it does, or a count leaves its type.
 pub const MISPLACED: u8 = 26;
 
-/// A number as 32 bytes, the highest first.
-fn wide(n: u64) -> [u8; 32]
-    ensures { result ≡ wide n }
-{
-    let mut bytes = [0; 32];
-    bytes[24..].copy_from_slice(&n.to_be_bytes());
-    bytes
-}
-
-/// What is told of a rule that is broken, by the value that it asks for and the one that stands there.
-fn damage(rule: u8, kept: u64, found: u64) -> Damage
-    ensures { result ≡ damage_of (record { rule = rule; kept = kept; found = found }) }
-{
-    Damage {
-        place: 0,
-        rule,
-        kept: wide(kept),
-        found: wide(found),
-    }
-}
-
 /// The node links to a node that has no record.
 pub(crate) fn broken_link(from: u32, to: u32) -> Damage
     ensures { (next : ℕ) → IsBreach next result }
 {
-    damage(BROKEN_LINK, u64::from(from), u64::from(to))
+    number_damage(0, BROKEN_LINK, u64::from(from), u64::from(to))
 }
 
 /// After as many nodes as the next new node's number, links lead on.
 pub(crate) fn endless(next: u32) -> Damage
     ensures { IsBreach next result }
 {
-    damage(ENDLESS, u64::from(next), u64::from(next) + 1)
+    number_damage(0, ENDLESS, u64::from(next), u64::from(next) + 1)
 }
 
 /// The node has this value where none can stand.
@@ -53,7 +32,7 @@ pub(crate) fn misplaced(node: u32, value: u64) -> Damage
     requires { value < 2 ^ 33 }
     ensures { (next : ℕ) → IsBreach next result }
 {
-    damage(MISPLACED, u64::from(node), value)
+    number_damage(0, MISPLACED, u64::from(node), value)
 }
 
 /// The key stands where no key can.

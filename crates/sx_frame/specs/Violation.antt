@@ -1,6 +1,6 @@
 -- A rule that is broken, and what is told of it.
-use Rattle.std.specs.Prelude.{ℕ, List, ◌++◌, replicate}
-use Rattle.std.specs.Int.{to_be_bytes, w64}
+use Rattle.std.specs.Prelude.{ℕ, List}
+use Rattle.sx_bytes.specs.Damage.{wide}
 use Rattle.sx_bytes.specs.declared.damage.Damage.{Damage}
 
 -- the number of the rule, what it asks for and what stands there instead: two digests, or two numbers of 32 bytes
@@ -8,10 +8,6 @@ pub record Violation : Type 0 where
   pub rule : ℕ
   pub kept : List ℕ
   pub found : List ℕ
-
--- a number of 32 bytes, the highest first
-abbrev pub wide : ℕ → List ℕ
-wide n = replicate 24 0 ++ to_be_bytes w64 n
 
 -- what is told of it at this place
 abbrev pub damage_at : ℕ → Violation → Damage

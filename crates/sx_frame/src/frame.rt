@@ -5,10 +5,9 @@ ghost use Rattle.sx_frame.specs.declared.frame.Frame.{Frame};
 ghost use Rattle.sx_frame.specs.Frame.{Explains, body_length, frame_bytes};
 
 use crate::FrameFault;
-use crate::damage::number_damage;
 use sha2::{Digest, Sha256};
 use std::alloc::{AllocError, Global};
-use sx_bytes::{Damage, Fields};
+use sx_bytes::{Damage, Fields, number_damage};
 use sx_tree::bytes::Bytes;
 
 /// Bytes of a frame in front of its body: the kind, and the length of the body in four bytes.

@@ -1,6 +1,7 @@
 -- The rules that groups keep, and what tells of one that breaks a rule.
-use Rattle.std.specs.Prelude.{ℕ, ℤ, ◌≡◌, ◌+◌, ◌^◌, ◌<◌, ◌≤◌, ◌≤ℤ◌, ◌<ℤ◌, ◌⊎◌, nat_lt, int_lt, List, [], ◌∷◌, ◌++◌, Option, None, Some, Result, Ok, Err, length, take, drop, replicate, if◌then◌else◌, FitsSigned}
-use Rattle.std.specs.Int.{to_be_bytes, cast_unsigned, w64}
+use Rattle.std.specs.Prelude.{ℕ, ℤ, ◌≡◌, ◌+◌, ◌^◌, ◌<◌, ◌≤◌, ◌≤ℤ◌, ◌<ℤ◌, ◌⊎◌, nat_lt, int_lt, List, [], ◌∷◌, ◌++◌, Option, None, Some, Result, Ok, Err, length, take, drop, if◌then◌else◌, FitsSigned}
+use Rattle.std.specs.Int.{cast_unsigned, w64}
+use Rattle.sx_bytes.specs.Damage.{number_damage}
 use Rattle.sx_bytes.specs.declared.damage.Damage.{Damage}
 use Rattle.sx_model.specs.Commit.{first_time}
 use Rattle.sx_model.specs.Edit.{number_limit}
@@ -63,13 +64,9 @@ Breaks time next bytes breach =
     × ((head_breach time next (length bytes) head ≡ Some breach)
     ⊎ ((head_breach time next (length bytes) head ≡ None) × (IsBody (take head.body (drop 16 bytes)) → ⊥) × (breach ≡ record { rule = 20; kept = 0; found = 0 }))))
 
--- a number of 32 bytes, the highest first
-abbrev pub wide : ℕ → List ℕ
-wide n = replicate 24 0 ++ to_be_bytes w64 n
-
 -- what is told of the breach by a group at this place
 abbrev pub damage_at : ℕ → Breach → Damage
-damage_at place breach = record { place = place; rule = breach.rule; kept = wide breach.kept; found = wide breach.found }
+damage_at place breach = number_damage place breach.rule breach.kept breach.found
 
 -- The image has groups that keep the rules, and then an open gate, behind which a rule is broken.
 pub record IsDamaged (image : List ℕ) (damage : Damage) : Type 0 where

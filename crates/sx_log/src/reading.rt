@@ -12,8 +12,7 @@ ghost use Rattle.sx_outside.specs.Faults.{Rose};
 
 use sha2::{Digest, Sha256};
 use std::str;
-use sx_bytes::{Damage, Fields};
-use sx_frame::number_damage;
+use sx_bytes::{Damage, Fields, number_damage};
 use sx_outside::Failed;
 use sx_volume::Volume;
 

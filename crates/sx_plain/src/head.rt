@@ -1,11 +1,11 @@
 // The heads of groups, and the rules on their numbers.
 ghost use Rattle.std.specs.Prelude.{◌≡◌, ◌+◌, ◌<◌, ◌^◌, ◌++◌, List, ℕ};
 ghost use Rattle.std.specs.Option.{option_map};
-ghost use Rattle.sx_layout.specs.Damage.{damage_at, head_breach, wide};
+ghost use Rattle.sx_layout.specs.Damage.{damage_at, head_breach};
 ghost use Rattle.sx_layout.specs.Group.{head_bytes};
 ghost use Rattle.sx_plain.specs.Row.{shown_head};
 
-use sx_bytes::{Damage, Fields};
+use sx_bytes::{Damage, Fields, number_damage};
 
 /// Bytes of a group's head.
 pub(crate) const HEAD_BYTES: usize = 16;
@@ -51,41 +51,19 @@ impl Head {
     {
         let size = LEAST_GROUP + u64::from(self.body);
         if left < size {
-            Some(damage(place, 6, left, size))
+            Some(number_damage(place, 6, left, size))
         } else if size > GROUP_LIMIT {
-            Some(damage(place, 6, GROUP_LIMIT, size))
+            Some(number_damage(place, 6, GROUP_LIMIT, size))
         } else if self.next < next {
-            Some(damage(place, 12, u64::from(next), u64::from(self.next)))
+            Some(number_damage(place, 12, u64::from(next), u64::from(self.next)))
         } else if self.next > NUMBER_LIMIT {
             let limit = u64::from(NUMBER_LIMIT);
-            Some(damage(place, 12, limit, u64::from(self.next)))
+            Some(number_damage(place, 12, limit, u64::from(self.next)))
         } else if self.time < time {
             let kept = time.cast_unsigned();
-            Some(damage(place, 8, kept, self.time.cast_unsigned()))
+            Some(number_damage(place, 8, kept, self.time.cast_unsigned()))
         } else {
             None
         }
     }
-}
-
-/// What is told of a group at this place that breaks the rule, by the value that the rule asks for and the one that stands
-/// there.
-pub(crate) fn damage(place: u64, rule: u8, kept: u64, found: u64) -> Damage
-    ensures { result ≡ damage_at place (record { rule = rule; kept = kept; found = found }) }
-{
-    Damage {
-        place,
-        rule,
-        kept: wide(kept),
-        found: wide(found),
-    }
-}
-
-// A number as 32 bytes, the highest first.
-fn wide(n: u64) -> [u8; 32]
-    ensures { result ≡ wide n }
-{
-    let mut bytes = [0; 32];
-    bytes[24..].copy_from_slice(&n.to_be_bytes());
-    bytes
 }

@@ -7,9 +7,10 @@ ghost use Rattle.sx_plain.specs.Row.{shown};
 ghost use Rattle.sx_outside.specs.Faults.{Rose};
 
 use crate::group::{OPEN, Row};
-use crate::head::{HEAD_BYTES, Head, LEAST_GROUP, damage};
+use crate::head::{HEAD_BYTES, Head, LEAST_GROUP};
 use crate::{Log, LogFault};
 use std::alloc::{AllocError, Global};
+use sx_bytes::number_damage;
 use sx_outside::Failed;
 use sx_tree::literal::{Literal, LiteralFault};
 use sx_volume::Volume;
@@ -87,7 +88,7 @@ fn read_group<V: Volume>(
     ensures never_falls { V.faults volume.old ≤ V.faults volume.new }
 {
     if left < LEAST_GROUP {
-        return Err(LogFault::Damaged(damage(place, 6, left, LEAST_GROUP)));
+        return Err(LogFault::Damaged(number_damage(place, 6, left, LEAST_GROUP)));
     }
     let head = read_head(volume, place)?;
     if let Some(damage) = head.damage(place, left, time, next) {
@@ -95,7 +96,7 @@ fn read_group<V: Volume>(
     }
     let body = read_bytes(alloc, volume, place + HEAD_BYTES as u64, head.body)?;
     if !is_body(alloc, &body)? {
-        return Err(LogFault::Damaged(damage(place, 20, 0, 0)));
+        return Err(LogFault::Damaged(number_damage(place, 20, 0, 0)));
     }
     Ok(Row {
         time: head.time,

@@ -4,4 +4,4 @@ use Rattle.sx_edit.proofs.damage.endless.Goals as goal
 
 pub returns : goal.returns
 unfolding IsBreach
-returns c = (_, c.damage.ensures, inr (inl (refl, omega arith, omega arith)))
+returns c = (_, c.number_damage.ensures, inr (inl (refl, omega arith, omega arith)))

@@ -4,4 +4,4 @@ use Rattle.sx_edit.proofs.damage.misplaced.Goals as goal
 
 pub returns : goal.returns
 unfolding IsBreach
-returns c = λ next. (_, c.damage.ensures, inr (inr (refl, omega arith, omega arith)))
+returns c = λ next. (_, c.number_damage.ensures, inr (inr (refl, omega arith, omega arith)))

@@ -13,9 +13,9 @@ use Rattle.sx_plain.proofs.reading.read_group.Goals as goal
 
 pub returns-then-left-lt-LEAST_GROUP-clause-damaged : goal.returns-then-left-lt-LEAST_GROUP-clause-damaged
 returns-then-left-lt-LEAST_GROUP-clause-damaged g c =
-    tells_short (g.V.Volume.bytes c.args.volume.now) c.args.place c.args.left c.args.time c.args.next c.damage.result
+    tells_short (g.V.Volume.bytes c.args.volume.now) c.args.place c.args.left c.args.time c.args.next c.number_damage.result
     (told_long (g.V.Volume.bytes c.args.volume.now) (g.V.Volume.size c.args.volume.now) (c.args.place + c.args.left) (g.met.V.Volume.told_size c.args.volume.now) c.requires.left)
-    c.if-left-lt-LEAST_GROUP.true c.damage.ensures
+    c.if-left-lt-LEAST_GROUP.true c.number_damage.ensures
 
 -- the rules were tested with this time
 at_time : (time : ℤ) (next left : ℕ) (head : Head) (place : ℕ) (result : Option Damage) → FitsSigned w64 time
@@ -36,7 +36,7 @@ returns-in-Some-clause-damaged g c =
     let head : Head = shown_head c.in_ok-head.head in
     let fits : FitsSigned w64 c.in_ok-head.head.time = search rules in
     let time : FitsSigned w64 c.args.time = search rules in
-    let tested = at_time c.args.time c.args.next c.args.left head c.args.place c.damage-2.result time c.damage-2.ensures in
+    let tested = at_time c.args.time c.args.next c.args.left head c.args.place c.damage.result time c.damage.ensures in
     tells_head (g.V.Volume.bytes c.args.volume.now) c.args.place c.args.left c.args.time c.args.next head c.in-Some.damage
     (told_long (g.V.Volume.bytes c.args.volume.now) (g.V.Volume.size c.args.volume.now) (c.args.place + c.args.left) (g.met.V.Volume.told_size c.args.volume.now) c.requires.left)
     c.if-left-lt-LEAST_GROUP.false fits (search rules) (search rules) c.in_ok-head.ensures.head (tested ∙ c.in-Some.is)
@@ -46,13 +46,13 @@ returns-then-not-branch-clause-damaged g c =
     let head : Head = shown_head c.in_ok-head.head in
     let fits : FitsSigned w64 c.in_ok-head.head.time = search rules in
     let time : FitsSigned w64 c.args.time = search rules in
-    let none = fine_none c.args.time c.args.next c.args.left head c.args.place c.damage-2.result time c.damage-2.ensures c.in_default.not-Some in
+    let none = fine_none c.args.time c.args.next c.args.left head c.args.place c.damage.result time c.damage.ensures c.in_default.not-Some in
     let body : IfSome (g.V.Volume.bytes c.args.volume.now) (λ all. c.in_ok-body.body.items ≡ take c.in_ok-head.head.body (drop (c.args.place + 16) all)) =
     subst (λ (b : Option (List ℕ)). IfSome b (λ all. c.in_ok-body.body.items ≡ take c.in_ok-head.head.body (drop (c.args.place + 16) all))) c.read_head.ensures.same_bytes c.in_ok-body.ensures.bytes in
-    tells_body (g.V.Volume.bytes c.args.volume.now) c.args.place c.args.left c.args.time c.args.next head c.in_ok-body.body.items c.damage-then-not-branch.result
+    tells_body (g.V.Volume.bytes c.args.volume.now) c.args.place c.args.left c.args.time c.args.next head c.in_ok-body.body.items c.number_damage-then-not-branch.result
     (told_long (g.V.Volume.bytes c.args.volume.now) (g.V.Volume.size c.args.volume.now) (c.args.place + c.args.left) (g.met.V.Volume.told_size c.args.volume.now) c.requires.left)
     c.if-left-lt-LEAST_GROUP.false fits (search rules) (search rules) c.in_ok-head.ensures.head body none
-    (λ is_body. c.in_ok-is_body.ensures.no c.if-not-branch.true (subst IsBody (sym c.deref.ensures.value) is_body)) c.damage-then-not-branch.ensures
+    (λ is_body. c.in_ok-is_body.ensures.no c.if-not-branch.true (subst IsBody (sym c.deref.ensures.value) is_body)) c.number_damage-then-not-branch.ensures
 
 both_leave : goal.returns-then-not-branch-clause-images
 both_leave g c =
@@ -86,7 +86,7 @@ returns-clause-keeps g c =
     let head : Head = shown_head c.in_ok-head.head in
     let fits : FitsSigned w64 c.in_ok-head.head.time = search rules in
     let time : FitsSigned w64 c.args.time = search rules in
-    let rules_kept = fine c.args.time c.args.next c.args.left head (fine_none c.args.time c.args.next c.args.left head c.args.place c.damage-2.result time c.damage-2.ensures c.in_default.not-Some) in
+    let rules_kept = fine c.args.time c.args.next c.args.left head (fine_none c.args.time c.args.next c.args.left head c.args.place c.damage.result time c.damage.ensures c.in_default.not-Some) in
     record {
       no_less = rules_kept.no_less;
       within = rules_kept.within;
