@@ -1,6 +1,6 @@
 -- What renaming answers over the records of a state.
 use Rattle.std.proofs.Common.{◌≡◌, ℕ, ◌+◌, ◌≤◌, Bool, true, false, List, [], ◌∷◌, Option, Some, None, refl, sym, ap, subst, ◌∙◌, arith}
-use Rattle.std.specs.Prelude.{◌==◌, ◌&&◌, Ok, Err, not, find, filter, option_map, bytes_eq}
+use Rattle.std.specs.Prelude.{◌==◌, ◌&&◌, IsTrue, Ok, Err, not, find, filter, option_map, bytes_eq}
 use Rattle.std.specs.Option.{ForSome}
 use Rattle.std.specs.FinMap as fin
 use Rattle.std.proofs.lemmas.Grind.{common_steps}
@@ -13,10 +13,11 @@ use Rattle.sx_view.specs.Rows.{row_of}
 use Rattle.sx_model.specs.Hash.{local_hash}
 use Rattle.sx_model.specs.Edit.{rename, apply, if_there, unless, wrong_kind, name_taken, other_keys, paths_spent, with_trees}
 use Rattle.sx_model.specs.State.{State}
-use Rattle.sx_model.specs.Tree.{Node, Forest, no_trees, tree_then, beside, is_key, change_at, document_node, document_with, size, Spot, tops}
+use Rattle.sx_model.specs.Tree.{Node, Forest, tree_then, beside, is_key, change_at, FitBelow, is_document, size, Spot, tops}
 use Rattle.sx_model.specs.Records.{NodeRow, first_of}
 use Rattle.sx_model.specs.Holes.{Frame, plug, shown, around_hole, rows_before, rows_behind}
 use Rattle.sx_model.proofs.Holes.{rows-plug}
+use Rattle.sx_model.proofs.Plugging.{fit_back}
 use Rattle.sx_edit.specs.declared.fault.EditFault.TheVariants.{Refused}
 use Rattle.sx_edit.specs.Told.{Shows, Moment}
 use Rattle.sx_edit.specs.Names.{FindsKey}
@@ -46,14 +47,16 @@ find-filter : (p q : Node → Bool) (ns : List Node) → find p (filter q ns) �
 find-filter p q [] = refl
 find-filter p q (n ∷ ns) = grind (arith, common_steps, find-filter p q ns)
 
--- the Document alone stands at the top
-top-node : (child : Forest) (left : Forest) (n : Node) (below right : Forest) → document_with child ≡ beside left (tree_then n below right) → n ≡ document_node
-top-node child no_trees n below right is = cc
-top-node child (tree_then m inner rest) n below right is = absurd (none rest (let e : no_trees ≡ beside rest (tree_then n below right) = cc in e))
-  where
-    none : (rest : Forest) → no_trees ≡ beside rest (tree_then n below right) → ⊥
-    none no_trees e = cc
-    none (tree_then m inner rest) e = cc
+-- no Key stands at the top
+top-kind : (kind : Kind) → IsTrue (is_document kind) → is_key kind ≡ false
+top-kind Document is = refl
+top-kind Object is = refl
+top-kind Array is = refl
+top-kind Key is = absurd cc
+top-kind Str is = refl
+top-kind Number is = refl
+top-kind Truth is = refl
+top-kind Null is = refl
 
 module _ (k : ℕ) (name : List ℕ) (next : ℕ) (r : NodeRecord) where
   rename-apply : (state : State) (o : Option (RecordMap NodeRecord)) (s : IsSeen k state o r)
@@ -82,16 +85,15 @@ module _ (k : ℕ) (name : List ℕ) (next : ℕ) (r : NodeRecord) where
   unfolding IsNoState
   rename-top before there key none state are =
       let s = seen k state next before r are there in
-      top s.at.around s.at.left s.at.node s.at.below s.at.right s.row (sym are.well_formed.document ∙ s.at.stands)
+      top s.at.around s.at.left s.at.node s.at.below s.at.right s.row (subst (FitBelow None) s.at.stands are.well_formed.fit)
     where
       top : (frames : List Frame) (left : Forest) (n : Node) (below right : Forest) → row_of r ≡ own_row local_hash no_path frames left n below right
-          → document_with are.well_formed.child ≡ plug frames (beside left (tree_then n below right)) → ⊥
-      top [] left n below right row is =
+          → FitBelow None (plug frames (beside left (tree_then n below right))) → ⊥
+      top [] left n below right row fit =
           let kind : r.kind ≡ n.kind = ap (λ (w : NodeRow). w.kind) row in
-          let n_is : n ≡ document_node = top-node are.well_formed.child left n below right is in
-          let no_key : is_key r.kind ≡ false = ap is_key (kind ∙ ap (λ (m : Node). m.kind) n_is) in
+          let no_key : is_key r.kind ≡ false = ap is_key kind ∙ top-kind n.kind (fit_back None left (tree_then n below right) fit).0 in
           cc
-      top (frame ∷ frames) left n below right row is =
+      top (frame ∷ frames) left n below right row fit =
           let up : r.parent ≡ Some frame.node.number = ap (λ (w : NodeRow). w.parent) row in
           cc
 

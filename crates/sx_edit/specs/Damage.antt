@@ -16,20 +16,21 @@ pub record Breach : Type 0 where
 abbrev pub damage_of : Breach → Damage
 damage_of breach = number_damage 0 breach.rule breach.kept breach.found
 
--- The values contradict the rule, in an edit before which the next new node would get this number: a link leads from one
--- node to another; links lead on after as many nodes as that number; a count has left its type, or a kind cannot stand below
--- another.
-abbrev pub Contradicts : ℕ → Breach → Type 0
-Contradicts next breach =
+-- The values are such as the rule tells, in an edit before which the next new node would get this number: of a link, the two
+-- nodes; of links that lead on after as many nodes as that number, the number and one more; of a count that left its type, or a
+-- kind that cannot stand where it does, the node and the count or the kind. That the link, the count or the kind stands in the
+-- records is not said.
+abbrev pub IsOfRule : ℕ → Breach → Type 0
+IsOfRule next breach =
     ((breach.rule ≡ BROKEN_LINK) × (breach.kept < 2 ^ 32) × (breach.found < 2 ^ 32))
     ⊎ (((breach.rule ≡ ENDLESS) × (breach.kept ≡ next) × (breach.found ≡ next + 1))
     ⊎ ((breach.rule ≡ MISPLACED) × (breach.kept < 2 ^ 32) × (breach.found < 2 ^ 33)))
 
--- what is told breaks one of the rules
+-- what is told is one of the rules, with values of its own
 unfoldable pub IsBreach : ℕ → Damage → Type 0
-IsBreach next damage = (breach : Breach) × (damage ≡ damage_of breach) × Contradicts next breach
+IsBreach next damage = (breach : Breach) × (damage ≡ damage_of breach) × IsOfRule next breach
 
--- Damage is told where the records are not, by the object below, or else by a rule with values that contradict it.
+-- Damage is told where the records are not, by the object below, or else by a rule with values of its own.
 abbrev pub IsDamage : {T : Type 0} → ℕ → Option T → Damage → Type 0
 IsDamage next told damage = (told ≡ None) ⊎ IsBreach next damage
 

@@ -12,7 +12,7 @@ edit_fault (faults.Damaged damage) = Damaged damage
 edit_fault faults.OutOfMemory = OutOfMemory
 
 -- Failed comes only where the faults of the object below rose, and Damaged only where nothing is told or by a rule with values
--- that contradict it.
+-- of its own.
 abbrev pub ExplainsEdit : {T : Type 0} → ℕ → Option T → Type 0 → EditFault → Type 0
 ExplainsEdit next told rose (Refused refusal) = Unit {0}
 ExplainsEdit next told rose Failed = rose

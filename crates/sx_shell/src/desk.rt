@@ -21,8 +21,8 @@ ghost use Rattle.sx_tree.specs.Number.{IsLiteral, IsNumber};
 use crate::line::{Said, parse};
 use crate::reply::{Reply, render};
 use std::alloc::{AllocError, Global};
-use sx_plain::{CommitFault, Log};
 use sx_outside::Clock;
+use sx_plain::{CommitFault, Log};
 use sx_tree::literal::{Literal, LiteralFault};
 use sx_volume::Volume;
 

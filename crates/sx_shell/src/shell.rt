@@ -25,8 +25,8 @@ use crate::words::is_live;
 use crate::write::write_all;
 use std::alloc::Global;
 use std::sync::Wait;
-use sx_plain::LogFault;
 use sx_outside::{Clock, Gate, Sink, Source};
+use sx_plain::LogFault;
 use sx_volume::Volume;
 
 /// Does all that `sirix live FILE` does: opens the volume, runs the script that the source gives, and writes

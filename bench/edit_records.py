@@ -1,0 +1,95 @@
+#!/usr/bin/env python3
+"""Makes the records of documents by the definition alone: their links, counts, hashes, and their bytes.
+
+`edit_records.py deep` writes the records of a scalar in ten nested arrays, in hexadecimal, a line each, by their numbers.
+`edit_records.py tables` writes the tables of `crates/sx_edit_rows/src/tables.rt`, but for their layout.
+"""
+
+import hashlib
+import struct
+import sys
+
+KINDS = ["Document", "Object", "Array", "Key", "Str", "Number", "Bool", "Null"]
+NONE = 0xFFFFFFFF
+
+
+class Node:
+    def __init__(self, number, kind, label=b"", children=()):
+        self.number, self.kind, self.label, self.children = number, KINDS.index(kind), label, list(children)
+
+    def size(self):
+        return 1 + sum(child.size() for child in self.children)
+
+    def hash(self):
+        digest = hashlib.sha256(bytes([self.kind]) + self.label).digest()
+        own = int.from_bytes(digest[:16], "big")
+        return (own + 257 * sum(child.hash() for child in self.children)) % 2**128
+
+
+def record(node, parent, left, right):
+    first = node.children[0].number if node.children else NONE
+    last = node.children[-1].number if node.children else NONE
+    links = struct.pack(">5I", parent, left, right, first, last)
+    counts = struct.pack(">2I", len(node.children), node.size() - 1)
+    label = struct.pack(">I", len(node.label)) + node.label
+    return bytes([node.kind]) + links + counts + node.hash().to_bytes(16, "big") + struct.pack(">I", 0) + label
+
+
+def records(node, parent=NONE, left=NONE, right=NONE):
+    yield node.number, record(node, parent, left, right)
+    numbers = [NONE, *(child.number for child in node.children), NONE]
+    for place, child in enumerate(node.children):
+        yield from records(child, node.number, numbers[place], numbers[place + 2])
+
+
+def number(place, text):
+    return Node(place, "Number", text.encode())
+
+
+def document(child=None):
+    return Node(0, "Document", b"", [child] if child else [])
+
+
+def fields(scalar=("Number", b"1"), name=b"a", items=(6, 7, 8)):
+    array = Node(5, "Array", b"", [number(item, str(item - 5)) for item in items])
+    keys = [Node(2, "Key", name, [Node(3, *scalar)]), Node(4, "Key", b"b", [array])]
+    return document(Node(1, "Object", b"", keys))
+
+
+def pairs(last):
+    left = Node(2, "Array", b"", [number(3, "1"), number(4, last)])
+    right = Node(5, "Array", b"", [number(6, "2"), number(7, "1")])
+    return document(Node(1, "Array", b"", [left, right]))
+
+
+def deep(depth):
+    node = number(depth + 1, "1")
+    for place in range(depth, 0, -1):
+        node = Node(place, "Array", b"", [node])
+    return document(node)
+
+
+TABLES = {
+    "FIELDS": fields(),
+    "SCALAR": fields(scalar=("Str", b"x")),
+    "NAMED": fields(name=b"c"),
+    "NO_FIRST": fields(items=(7, 8)),
+    "NO_MIDDLE": fields(items=(6, 8)),
+    "NO_LAST": fields(items=(6, 7)),
+    "NO_KEY": document(Node(1, "Object", b"", [Node(2, "Key", b"a", [number(3, "1")])])),
+    "ONE": document(Node(1, "Array", b"", [number(2, "1")])),
+    "NONE": document(Node(1, "Array")),
+    "EMPTY": document(),
+    "PAIRS": pairs("1"),
+    "MIRRORED": pairs("2"),
+}
+
+if sys.argv[1:] == ["deep"]:
+    print("\n".join(data.hex() for _, data in records(deep(10))))
+else:
+    for name, root in TABLES.items():
+        rows = list(records(root))
+        print(f"pub(crate) const {name}: [(u32, &[u8]); {len(rows)}] = [")
+        for place, data in rows:
+            print(f'    ({place}, b"{"".join(chr(92) + f"x{byte:02x}" for byte in data)}"),')
+        print("];\n")
