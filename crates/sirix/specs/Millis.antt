@@ -1,5 +1,5 @@
 -- Moments of the system's clock.
-use Rattle.std.specs.Prelude.{ℕ, ◌/◌, ℤ, pos}
+use Rattle.std.specs.Prelude.{◌/◌, ℤ, pos}
 use Rattle.std.specs.Time.{system_time_nanos}
 use Rattle.std.specs.declared.time.SystemTime.{SystemTime}
 

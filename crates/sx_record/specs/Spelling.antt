@@ -2,7 +2,6 @@
 use Rattle.std.specs.Prelude.{ℕ, List, [], ◌∷◌, ◌++◌, length, Option, Some, None}
 use Rattle.std.specs.Int.{w32, w128, to_be_bytes}
 use Rattle.sx_tree.specs.Text.{IsText}
-use Rattle.sx_tree.specs.declared.record.Kind.{Kind}
 use Rattle.sx_tree.specs.declared.record.Step.{Step}
 use Rattle.sx_tree.specs.declared.record.Step.TheVariants.{Top, Item, Name}
 use Rattle.sx_tree.specs.Record.{kind_byte}

@@ -1,7 +1,7 @@
 -- A volume in memory behind a fuse, and what its calls make of it.
 use Rattle.std.specs.Prelude.{ℕ, ◌≡◌, ◌-◌, ◌⊎◌, ◌==◌, if◌then◌else◌}
 use Rattle.sx_volume.specs.Counts.{plus}
-use Rattle.sx_volume.specs.Medium.{Medium, after_failure, after_failed_read}
+use Rattle.sx_volume.specs.Medium.{Medium}
 use Rattle.sx_volume.specs.Tally.{FailsNext}
 
 pub record Fuse : Type 0 where
