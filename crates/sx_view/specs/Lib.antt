@@ -1,3 +1,4 @@
 pub mod QueryFault
 pub mod Records
+pub mod Rows
 pub mod Slots

@@ -1,5 +1,5 @@
 //! Records in memory.
-ghost use Rattle.std.specs.Prelude.{◌≡◌, None, Some};
+ghost use Rattle.std.specs.Prelude.{◌≡◌, IsFalse, Some};
 ghost use Rattle.std.specs.FinMap as map;
 ghost use Rattle.sx_view.specs.Slots.{CanRewind, CanRewind-prop};
 
@@ -25,7 +25,7 @@ impl<R: Record> MemRecords<R> {
     /// No record.
     pub fn new(alloc: Global) -> MemRecords<R>
         ensures told { ⟦<MemRecords<R> as Records<R>>⟧.told result ≡ Some map.empty }
-        ensures no_mark { ⟦<MemRecords<R> as RecordsMut<R>>⟧.marked result ≡ None }
+        ensures no_mark { IsFalse (⟦<MemRecords<R> as RecordsMut<R>>⟧.has_mark result) }
         ensures no_gets { ⟦<MemRecords<R> as Records<R>>⟧.gets result ≡ 0 }
     {
         MemRecords {
@@ -66,11 +66,27 @@ impl<R: Record> Records<R> for MemRecords<R> {
 }
 
 impl<R: Record> RecordsMut<R> for MemRecords<R> {
-    ghost use Rattle.sx_view.specs.Slots.{at_mark};
+    ghost use Rattle.std.specs.Prelude.{◌≡◌, Some, is_some, refl};
+    ghost use Rattle.std.proofs.Common.{ap, ◌∙◌};
+    ghost use Rattle.sx_view.specs.Slots.{at_mark, held};
 
-    ghost marked = { λ s. at_mark s.slots s.changes };
+    ghost has_mark = { λ s. is_some (at_mark s.slots s.changes) };
 
-    ghost keeps_mark = { λ a b kept. kept.1 };
+    ghost same = { λ a b. held b.slots.entries ≡ held a.slots.entries };
+
+    ghost marks = { λ a b. at_mark b.slots b.changes ≡ Some (held a.slots.entries) };
+
+    ghost same_told = { λ a b is. ap Some is };
+
+    ghost same_itself = { λ a. refl };
+
+    ghost same_then = { λ a b c first second. second ∙ first };
+
+    ghost keeps_same = { λ a b kept. kept.0 };
+
+    ghost keeps_mark = { λ a b kept. ap is_some kept.1 };
+
+    ghost keeps_marked = { λ a b c kept is. kept.1 ∙ is };
 
     fn put(&mut self, _alloc: Global, k: u32, value: R) -> Result<(), AllocError> {
         match &mut self.changes {

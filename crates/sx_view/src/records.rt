@@ -1,5 +1,5 @@
 //! What reads records, and what changes them.
-ghost use Rattle.std.specs.Prelude.{◌≡◌, ◌+◌, ◌-◌, ◌^◌, ◌≤◌, Option, None, ℕ, min, IfOk, IfErr, IfSome, IsSome, OnErr, OnOk};
+ghost use Rattle.std.specs.Prelude.{◌≡◌, ◌+◌, ◌-◌, ◌^◌, ◌≤◌, Bool, IsFalse, IsTrue, Option, ℕ, min, IfOk, IfErr, IfSome, OnErr, OnOk};
 ghost use Rattle.std.specs.Option.{option_map};
 ghost use Rattle.std.specs.FinMap as map;
 ghost use Rattle.sx_outside.specs.Faults.{Rose};
@@ -44,46 +44,65 @@ pub trait Records<R> {
 
 /// Records that can be changed, and changed back to how they were at a mark.
 pub trait RecordsMut<R>: Records<R> {
-    /// The records at the mark, where there is one.
-    ghost marked: { Self → Option (RecordMap R) };
+    /// Whether there is a mark.
+    ghost has_mark: { Self → Bool };
+
+    /// The two hold the same records, whether or not they tell them.
+    ghost same: { Self → Self → Type 0 };
+
+    /// The second has a mark, at which the records were those of the first.
+    ghost marks: { Self → Self → Type 0 };
 
     /// Gives the number the record, instead of one that it had. Where memory runs out nothing is changed.
     fn put(&mut self, alloc: Global, k: u32, value: R) -> Result<(), AllocError>
         ensures ok { OnOk result (Self.told self.new ≡ option_map (λ records. map.insert records k value) (Self.told self.old)) }
-        ensures err { OnErr result (Self.told self.new ≡ Self.told self.old) }
-        ensures same_mark { marked self.new ≡ marked self.old }
+        ensures err { OnErr result (same self.old self.new) }
+        ensures same_mark { has_mark self.new ≡ has_mark self.old }
+        ensures same_marked { (a : Self) → marks a self.old → marks a self.new }
         ensures same_gets { Self.gets self.new ≡ Self.gets self.old }
         ensures never_falls { Self.faults self.old ≤ Self.faults self.new };
 
     /// Takes away the record of the number, where there is one. Where memory runs out nothing is changed.
     fn drop_record(&mut self, alloc: Global, k: u32) -> Result<(), AllocError>
         ensures ok { OnOk result (Self.told self.new ≡ option_map (λ records. map.remove records k) (Self.told self.old)) }
-        ensures err { OnErr result (Self.told self.new ≡ Self.told self.old) }
-        ensures same_mark { marked self.new ≡ marked self.old }
+        ensures err { OnErr result (same self.old self.new) }
+        ensures same_mark { has_mark self.new ≡ has_mark self.old }
+        ensures same_marked { (a : Self) → marks a self.old → marks a self.new }
         ensures same_gets { Self.gets self.new ≡ Self.gets self.old }
         ensures never_falls { Self.faults self.old ≤ Self.faults self.new };
 
     /// Marks the records as they are, instead of an earlier mark.
     fn begin(&mut self)
-        ensures marked { marked self.new ≡ Self.told self.old }
-        ensures same { Self.told self.new ≡ Self.told self.old }
+        ensures has_mark { IsTrue (has_mark self.new) }
+        ensures marked { marks self.old self.new }
+        ensures same { same self.old self.new }
         ensures same_gets { Self.gets self.new ≡ Self.gets self.old }
         ensures never_falls { Self.faults self.old ≤ Self.faults self.new };
 
-    /// Restores the records at the mark, and drops it.
+    /// Restores the records at the mark, also where they are not told, and drops it.
     fn undo(&mut self)
-        requires { IsSome (marked self.old) }
-        ensures restored { Self.told self.new ≡ marked self.old }
-        ensures no_mark { marked self.new ≡ None }
+        requires { IsTrue (has_mark self.old) }
+        ensures restored { (a : Self) → marks a self.old → same a self.new }
+        ensures no_mark { IsFalse (has_mark self.new) }
         ensures same_gets { Self.gets self.new ≡ Self.gets self.old }
         ensures never_falls { Self.faults self.old ≤ Self.faults self.new };
 
     /// Drops the mark.
     fn keep(&mut self)
-        ensures same { Self.told self.new ≡ Self.told self.old }
-        ensures no_mark { marked self.new ≡ None }
+        ensures same { same self.old self.new }
+        ensures no_mark { IsFalse (has_mark self.new) }
         ensures same_gets { Self.gets self.new ≡ Self.gets self.old }
         ensures never_falls { Self.faults self.old ≤ Self.faults self.new };
 
-    ghost keeps_mark: { (a b : Self) → Self.keeps a b → marked b ≡ marked a };
+    ghost same_told: { (a b : Self) → same a b → Self.told b ≡ Self.told a };
+
+    ghost same_itself: { (a : Self) → same a a };
+
+    ghost same_then: { (a b c : Self) → same a b → same b c → same a c };
+
+    ghost keeps_same: { (a b : Self) → Self.keeps a b → same a b };
+
+    ghost keeps_mark: { (a b : Self) → Self.keeps a b → has_mark b ≡ has_mark a };
+
+    ghost keeps_marked: { (a b c : Self) → Self.keeps b c → marks a b → marks a c };
 }
