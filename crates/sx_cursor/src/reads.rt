@@ -28,6 +28,7 @@ pub fn read_linked<N: Records<NodeRecord>>(
     ensures gets { N.gets records.new ≤ N.gets records.old + 1 }
     ensures never_falls { N.faults records.old ≤ N.faults records.new }
     ensures keeps { N.keeps records.old records.new }
+    ensures same { N.told records.new ≡ N.told records.old }
 {
     match records.get(alloc, to)? {
         Some(record) => Ok(record),
