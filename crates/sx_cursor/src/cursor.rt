@@ -31,6 +31,7 @@ impl<'a, N: Records<NodeRecord>> Cursor<'a, N> {
         ensures same_records { IfOk result (λ found. IfSome found (λ cursor. (cursor.records.ghost_name ≡ records.entry.ghost_name)
             × N.keeps records.old cursor.records.now)) }
         ensures absent { IfOk result (λ found. IfNone found (Tells (N.told records.old) at None)) }
+        ensures damaged { IfErr result (λ fault. IsDamaged fault → N.told records.old ≡ None) }
     {
         match records.get(alloc, at)? {
             Some(record) => Ok(Some(Cursor {
@@ -47,6 +48,7 @@ impl<'a, N: Records<NodeRecord>> Cursor<'a, N> {
         ensures same_records { self.new.records.ghost_name ≡ self.old.records.ghost_name }
         ensures keeps { N.keeps self.old.records.now self.new.records.now }
         ensures gets { N.gets self.new.records.now ≤ N.gets self.old.records.now + 1 }
+        ensures never_falls { N.faults self.old.records.now ≤ N.faults self.new.records.now }
         ensures moved { IfOk result (IsMoved (λ _. link) (N.told self.old.records.now) (place_of self.old.at self.old.record) (place_of self.new.at self.new.record)) }
         ensures stays { IfErr result (λ _. place_of self.new.at self.new.record ≡ place_of self.old.at self.old.record) }
         ensures fault { IfErr result (Explains (N.told self.old.records.now) (Rose (N.faults self.old.records.now) (N.faults self.new.records.now))
@@ -70,6 +72,7 @@ impl<'a, N: Records<NodeRecord>> Cursor<'a, N> {
         ensures same_records { self.new.records.ghost_name ≡ self.old.records.ghost_name }
         ensures keeps { N.keeps self.old.records.now self.new.records.now }
         ensures gets { N.gets self.new.records.now ≤ N.gets self.old.records.now + 1 }
+        ensures never_falls { N.faults self.old.records.now ≤ N.faults self.new.records.now }
         ensures moved { IfOk result (IsMovedTo k (N.told self.old.records.now) (place_of self.old.at self.old.record) (place_of self.new.at self.new.record)) }
         ensures stays { IfErr result (λ _. place_of self.new.at self.new.record ≡ place_of self.old.at self.old.record) }
         ensures fault { IfErr result (ExplainsFault (N.told self.old.records.now) (Rose (N.faults self.old.records.now) (N.faults self.new.records.now))) }
@@ -94,6 +97,7 @@ impl<'a, N: Records<NodeRecord>> Cursor<'a, N> {
         ensures same_records { self.new.records.ghost_name ≡ self.old.records.ghost_name }
         ensures keeps { N.keeps self.old.records.now self.new.records.now }
         ensures gets { N.gets self.new.records.now ≤ N.gets self.old.records.now + 1 }
+        ensures never_falls { N.faults self.old.records.now ≤ N.faults self.new.records.now }
         ensures moved { IfOk result (IsMoved (λ w. w.parent) (N.told self.old.records.now) (place_of self.old.at self.old.record) (place_of self.new.at self.new.record)) }
         ensures stays { IfErr result (λ _. place_of self.new.at self.new.record ≡ place_of self.old.at self.old.record) }
         ensures fault { IfErr result (Explains (N.told self.old.records.now) (Rose (N.faults self.old.records.now) (N.faults self.new.records.now))
@@ -113,6 +117,7 @@ impl<'a, N: Records<NodeRecord>> Cursor<'a, N> {
         ensures same_records { self.new.records.ghost_name ≡ self.old.records.ghost_name }
         ensures keeps { N.keeps self.old.records.now self.new.records.now }
         ensures gets { N.gets self.new.records.now ≤ N.gets self.old.records.now + 1 }
+        ensures never_falls { N.faults self.old.records.now ≤ N.faults self.new.records.now }
         ensures moved { IfOk result (IsMoved (λ w. w.first) (N.told self.old.records.now) (place_of self.old.at self.old.record) (place_of self.new.at self.new.record)) }
         ensures stays { IfErr result (λ _. place_of self.new.at self.new.record ≡ place_of self.old.at self.old.record) }
         ensures fault { IfErr result (Explains (N.told self.old.records.now) (Rose (N.faults self.old.records.now) (N.faults self.new.records.now))
@@ -132,6 +137,7 @@ impl<'a, N: Records<NodeRecord>> Cursor<'a, N> {
         ensures same_records { self.new.records.ghost_name ≡ self.old.records.ghost_name }
         ensures keeps { N.keeps self.old.records.now self.new.records.now }
         ensures gets { N.gets self.new.records.now ≤ N.gets self.old.records.now + 1 }
+        ensures never_falls { N.faults self.old.records.now ≤ N.faults self.new.records.now }
         ensures moved { IfOk result (IsMoved (λ w. w.last) (N.told self.old.records.now) (place_of self.old.at self.old.record) (place_of self.new.at self.new.record)) }
         ensures stays { IfErr result (λ _. place_of self.new.at self.new.record ≡ place_of self.old.at self.old.record) }
         ensures fault { IfErr result (Explains (N.told self.old.records.now) (Rose (N.faults self.old.records.now) (N.faults self.new.records.now))
@@ -151,6 +157,7 @@ impl<'a, N: Records<NodeRecord>> Cursor<'a, N> {
         ensures same_records { self.new.records.ghost_name ≡ self.old.records.ghost_name }
         ensures keeps { N.keeps self.old.records.now self.new.records.now }
         ensures gets { N.gets self.new.records.now ≤ N.gets self.old.records.now + 1 }
+        ensures never_falls { N.faults self.old.records.now ≤ N.faults self.new.records.now }
         ensures moved { IfOk result (IsMoved (λ w. w.left) (N.told self.old.records.now) (place_of self.old.at self.old.record) (place_of self.new.at self.new.record)) }
         ensures stays { IfErr result (λ _. place_of self.new.at self.new.record ≡ place_of self.old.at self.old.record) }
         ensures fault { IfErr result (Explains (N.told self.old.records.now) (Rose (N.faults self.old.records.now) (N.faults self.new.records.now))
@@ -170,6 +177,7 @@ impl<'a, N: Records<NodeRecord>> Cursor<'a, N> {
         ensures same_records { self.new.records.ghost_name ≡ self.old.records.ghost_name }
         ensures keeps { N.keeps self.old.records.now self.new.records.now }
         ensures gets { N.gets self.new.records.now ≤ N.gets self.old.records.now + 1 }
+        ensures never_falls { N.faults self.old.records.now ≤ N.faults self.new.records.now }
         ensures moved { IfOk result (IsMoved (λ w. w.right) (N.told self.old.records.now) (place_of self.old.at self.old.record) (place_of self.new.at self.new.record)) }
         ensures stays { IfErr result (λ _. place_of self.new.at self.new.record ≡ place_of self.old.at self.old.record) }
         ensures fault { IfErr result (Explains (N.told self.old.records.now) (Rose (N.faults self.old.records.now) (N.faults self.new.records.now))
