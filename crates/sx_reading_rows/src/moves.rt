@@ -25,7 +25,8 @@ fn moves(rt: HostRuntime) -> Result<(), Fail> {
     assert_eq!(rt; cursor.record().label.as_bytes(), b"2".as_slice());
     assert!(rt; !cursor.to(alloc, 16)?);
     assert_eq!(rt; cursor.at(), 15);
-    assert!(rt; Cursor::new(alloc, &mut records, 16)?.is_none());
+    let again = cursor.into_records();
+    assert!(rt; Cursor::new(alloc, again, 16)?.is_none());
     Ok(())
 }
 
