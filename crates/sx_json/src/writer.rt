@@ -1,5 +1,5 @@
 //! Writes the canonical text of a value.
-ghost use Rattle.std.specs.Prelude.{◌≡◌, ◌<◌, ◌≤◌, ◌++◌, OnErr, OnOk};
+ghost use Rattle.std.specs.Prelude.{◌≡◌, ◌<◌, ◌≤◌, ◌++◌, OnErr, OnOk, length, take};
 ghost use Rattle.sx_tree.specs.Value.{object, value_of, values_of, fields_of, depth};
 ghost use Rattle.sx_model.specs.Canonical.{comma_before, escaped, lower_hex_digit, string_text, scalar_text, text, elements_text, members_text};
 ghost use Rattle.sx_model.specs.Grammar.{Spells};
@@ -92,8 +92,11 @@ fn write_comma(place: usize, out: &mut Bytes) -> Result<(), AllocError>
     if place > 0 { out.push(b',') } else { Ok(()) }
 }
 
-fn write_string(content: &[u8], out: &mut Bytes) -> Result<(), AllocError>
-    ensures { OnOk result (out.new ≡ out.old ++ string_text content.now) }
+/// Appends the content as a string: between quotes, with its quotes, backslashes and control characters escaped (RFC 8259,
+/// section 7). A failure may leave a part of it behind what was there.
+pub fn write_string(content: &[u8], out: &mut Bytes) -> Result<(), AllocError>
+    ensures written { OnOk result (out.new ≡ out.old ++ string_text content.now) }
+    ensures begins { take (length out.old) out.new ≡ out.old }
 {
     out.push(b'"')?;
     for byte in content {
@@ -103,7 +106,8 @@ fn write_string(content: &[u8], out: &mut Bytes) -> Result<(), AllocError>
 }
 
 fn write_byte(byte: u8, out: &mut Bytes) -> Result<(), AllocError>
-    ensures { OnOk result (out.new ≡ out.old ++ escaped byte) }
+    ensures written { OnOk result (out.new ≡ out.old ++ escaped byte) }
+    ensures begins { take (length out.old) out.new ≡ out.old }
 {
     match byte {
         b'"' => out.extend_from_slice(b"\\\""),

@@ -34,7 +34,7 @@ write_members-loop-place-preserved t c =
     let at = member_at ms place name value below names values in
     record {
       written = c.in_ok-write_value.ensures.written
-          ∙ ap (λ o. o ++ text (value_of value)) (c.in_ok-push.ensures.ok ∙ ap (λ o. o ++ 58 ∷ []) (c.in_ok-write_string.ensures
+          ∙ ap (λ o. o ++ text (value_of value)) (c.in_ok-push.ensures.ok ∙ ap (λ o. o ++ 58 ∷ []) (c.in_ok-write_string.ensures.written
           ∙ ap (λ n. c.write_comma.new.out ++ string_text n) c.as_bytes.ensures.same
           ∙ ap (λ o. o ++ string_text name) (c.in_ok-write_comma.ensures ∙ ap (λ o. o ++ comma_before place) c.loop-place.invariant.written)))
           ∙ regrouped_member c.args.out.now _ (comma_before place) (string_text name) (text (value_of value))

@@ -1,0 +1,9 @@
+//! Reading within a revision, by its public calls alone. The crate has tests alone.
+#![tactic(auto)]
+
+#[cfg(test)]
+mod documents;
+#[cfg(test)]
+mod moves;
+#[cfg(test)]
+mod texts;
