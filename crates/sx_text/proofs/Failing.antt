@@ -1,5 +1,5 @@
 -- Faults of a reading on the way.
-use Rattle.std.proofs.Common.{◌≡◌, ◌≤◌, ℕ, List, Option, Some, None, sym, subst, inl, inr, arith}
+use Rattle.std.proofs.Common.{◌≡◌, ◌∙◌, ◌≤◌, ℕ, List, Option, Some, None, false, ap, sym, subst, inl, inr, arith}
 use Rattle.sx_outside.specs.Faults.{Rose}
 use Rattle.std.specs.Prelude.{Result, Ok, Err, IfErr, IsErrAnd, MatchResult}
 use Rattle.sx_bytes.specs.declared.damage.Damage.{Damage}
@@ -7,8 +7,13 @@ use Rattle.sx_tree.specs.declared.record.NodeRecord.{NodeRecord}
 use Rattle.sx_view.specs.declared.fault.Fault.{Fault}
 use Rattle.sx_view.specs.declared.fault.Fault.TheVariants.{Failed, Damaged, OutOfMemory}
 use Rattle.sx_view.specs.Records.{RecordMap}
-use Rattle.sx_cursor.specs.Damage.{Explains, IsBrokenLink, IsDamaged}
-use Rattle.sx_text.specs.Pen.{damaged, Writes}
+use Rattle.sx_tree.specs.Record.{kind_byte}
+use Rattle.sx_tree.specs.declared.record.Kind.{Kind}
+use Rattle.sx_model.specs.Records.{NodeRow}
+use Rattle.sx_model.specs.Tree.{may_stand_below}
+use Rattle.sx_cursor.specs.Damage.{Explains, IsBrokenLink, IsDamaged, misplaced}
+use Rattle.sx_cursor.specs.Told.{Tells}
+use Rattle.sx_text.specs.Pen.{damaged, IsRead, Writes}
 use Rattle.sx_text.specs.Text.{IsBroken, IsLinked}
 use Rattle.sx_text.specs.declared.pen.Pen.{Pen}
 use Rattle.sx_text.proofs.Writing.{writes-absent, writes-untold}
@@ -24,6 +29,14 @@ pub absent_writes : {T : Type 0} (o : Option (RecordMap NodeRecord)) (old : Pen)
     → old.next ≡ Some to → IsErrAnd r (λ e. e ≡ fault) → Explains o rose (IsBrokenLink o from to) fault → MatchResult r P (λ e. IsDamaged e → Writes o old before damaged)
 absent_writes o old from to before rose (Ok x) fault P some is why = absurd is
 absent_writes o old from to before rose (Err e) fault P some is why = absent_damage o old from to before rose e some (subst (Explains o rose (IsBrokenLink o from to)) (sym is) why)
+
+-- a node that cannot stand below an open one
+pub misplaced_fault : (o : Option (RecordMap NodeRecord)) (pen : Pen) (k count : ℕ) (child : NodeRow) (damage : Damage) → IsRead o pen → pen.next ≡ Some k
+    → Tells o k (Some child) → may_stand_below pen.above.kind child.kind ≡ false → damage ≡ misplaced k (kind_byte child.kind) → IsBroken o count damage
+misplaced_fault o pen k count child damage read next there wrong is =
+    let open' = read.above in
+    let apart = ap (λ (kind : Kind). may_stand_below kind child.kind) open'.1.1 ∙ wrong in
+    inr (inr (inl (k, (child, (pen.above.number, (open'.0, ((pen.from, read.linked k next), (there, (open'.1.0, apart, is)))))))))
 
 link_broken : (o : Option (RecordMap NodeRecord)) (from to count : ℕ) (rose : Type 0) (fault : Fault) → IsLinked o from to
     → Explains o rose (IsBrokenLink o from to) fault → Explains o rose (IsBroken o count) fault

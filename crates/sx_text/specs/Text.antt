@@ -35,11 +35,13 @@ IsLinked o from to = (w : NodeRow) × (Tells o from (Some w) × ((w.first ≡ So
 abbrev pub HasBrokenLink : Option (RecordMap NodeRecord) → Damage → Type 0
 HasBrokenLink o damage = (from : ℕ) × ((to : ℕ) × (IsLinked o from to × IsBrokenLink o from to damage))
 
--- a child whose kind cannot stand below that of a node
+-- a node to which a link leads, and another one that has a kind below which the first cannot stand
 abbrev pub HasMisplaced : Option (RecordMap NodeRecord) → Damage → Type 0
 HasMisplaced o damage =
-    (k : ℕ)
-    × ((above : NodeRow) × ((child : NodeRow) × (Tells o k (Some child) × (may_stand_below above.kind child.kind ≡ false) × (damage ≡ misplaced k (kind_byte child.kind)))))
+    (k : ℕ) × ((child : NodeRow)
+    × ((a : ℕ) × ((above : NodeRow)
+    × (((from : ℕ) × IsLinked o from k)
+    × (Tells o k (Some child) × (Tells o a (Some above) × (may_stand_below above.kind child.kind ≡ false) × (damage ≡ misplaced k (kind_byte child.kind))))))))
 
 -- a Key without a child
 abbrev pub HasBareKey : Option (RecordMap NodeRecord) → Damage → Type 0

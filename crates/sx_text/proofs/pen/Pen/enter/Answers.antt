@@ -1,8 +1,9 @@
-use Rattle.std.proofs.Common.{arith, sym, ap, ◌∙◌, ◌++◌}
+use Rattle.std.proofs.Common.{arith, sym, ap, inr, ◌∙◌, ◌++◌}
 use Rattle.sx_model.specs.TreeText.{opening}
 use Rattle.sx_view.specs.Rows.{row_of}
+use Rattle.sx_cursor.specs.Damage.{misplaced}
 use Rattle.sx_text.proofs.Writing.{writes-enter, writes-misplaced, writes-out, read-enter}
-use Rattle.sx_text.proofs.Failing.{absent_writes, broken_link_fault}
+use Rattle.sx_text.proofs.Failing.{absent_writes, broken_link_fault, misplaced_fault}
 use Rattle.sx_text.proofs.pen.Pen.enter.Goals as goal
 
 pub returns-then-self-eq0-clause-writes : goal.returns-then-self-eq0-clause-writes
@@ -16,6 +17,11 @@ returns-in_err-node-clause-fault g c = broken_link_fault _ _ _ _ _ _ _ (c.requir
 
 pub returns-then-not-may_stand-clause-writes : goal.returns-then-not-may_stand-clause-writes
 returns-then-not-may_stand-clause-writes g c = λ _. writes-misplaced _ _ _ (row_of c.in_ok-node.node) _ _ c.requires.next c.in_ok-node.ensures.found (sym c.may_stand.ensures ∙ c.if-not-may_stand.true)
+
+pub returns-then-not-may_stand-clause-fault : goal.returns-then-not-may_stand-clause-fault
+returns-then-not-may_stand-clause-fault g c =
+    inr (misplaced_fault _ _ _ c.args.count (row_of c.in_ok-node.node) _ c.requires.read c.requires.next c.in_ok-node.ensures.found (sym c.may_stand.ensures ∙ c.if-not-may_stand.true)
+    (c.misplaced.ensures ∙ ap (misplaced c.args.number) c.byte_of.ensures))
 
 pub returns-clause-read : goal.returns-clause-read
 returns-clause-read g c = read-enter _ _ _ (row_of c.in_ok-node.node) _ c.requires.read c.in_ok-node.ensures.found c.in-Ok.ensures.items
