@@ -1,6 +1,6 @@
 -- The rules that records of nodes keep, and what tells of one that is broken.
-use Rattle.std.specs.Prelude.{ℕ, ◌≡◌, ◌+◌, ◌⊎◌, List, ◌++◌, Option, None, replicate}
-use Rattle.std.specs.Int.{to_be_bytes, w64}
+use Rattle.std.specs.Prelude.{ℕ, ◌≡◌, ◌+◌, ◌⊎◌, Option, None}
+use Rattle.sx_bytes.specs.Damage.{number_damage}
 use Rattle.sx_bytes.specs.declared.damage.Damage.{Damage}
 use Rattle.sx_tree.specs.declared.record.NodeRecord.{NodeRecord}
 use Rattle.sx_view.specs.Records.{RecordMap}
@@ -9,25 +9,17 @@ use Rattle.sx_view.specs.declared.fault.Fault.TheVariants.{Failed, Damaged, OutO
 use Rattle.sx_cursor.specs.declared.damage.TheConstants.{BROKEN_LINK, ENDLESS, MISPLACED}
 use Rattle.sx_cursor.specs.Told.{Tells}
 
--- a number as 32 bytes, the highest first
-abbrev pub wide : ℕ → List ℕ
-wide n = replicate 24 0 ++ to_be_bytes w64 n
-
--- what tells of a broken rule, by the value or bound that it asks for and the value that stands there
-abbrev pub damage_of : ℕ → ℕ → ℕ → Damage
-damage_of rule kept found = record { place = 0; rule = rule; kept = wide kept; found = wide found }
-
 -- a link from one node to another that has no record
 abbrev pub broken_link : ℕ → ℕ → Damage
-broken_link from to = damage_of BROKEN_LINK from to
+broken_link from to = number_damage 0 BROKEN_LINK from to
 
 -- links that lead on after so many nodes
 abbrev pub endless : ℕ → Damage
-endless count = damage_of ENDLESS count (count + 1)
+endless count = number_damage 0 ENDLESS count (count + 1)
 
 -- a child with the byte of its kind, which cannot stand where it does; or a Key, and 0, since it has no child
 abbrev pub misplaced : ℕ → ℕ → Damage
-misplaced node byte = damage_of MISPLACED node byte
+misplaced node byte = number_damage 0 MISPLACED node byte
 
 -- Failed comes only where the faults of the object below rose, and damage is told only where the records are not, or of a rule
 -- that is broken.
