@@ -1,5 +1,5 @@
 -- Levels of nesting, from one node to the one above it, and what they leave room for.
-use Rattle.std.proofs.Common.{◌≡◌, ℕ, ◌+◌, ◌-◌, ◌≤◌, List, [], ◌∷◌, length, Option, Some, None, Result, Ok, Err, refl, sym, ap, subst, ◌∙◌, arith, min, nat_lt}
+use Rattle.std.proofs.Common.{◌≡◌, ℕ, ◌+◌, ◌-◌, List, [], ◌∷◌, Option, Some, None, Result, Ok, Err, refl, sym, ap, subst, ◌∙◌, arith, min, nat_lt}
 use Rattle.std.specs.Prelude.{◌^◌, IsErrAnd, option_map, sum_by}
 use Rattle.std.specs.Option.{option_or, ForSome}
 use Rattle.std.specs.FinMap as fin
@@ -16,11 +16,9 @@ use Rattle.sx_model.specs.Edit.{nesting_limit, number_limit, numbers_spent, when
 use Rattle.sx_model.specs.Hash.{local_hash}
 use Rattle.sx_model.specs.Holes.{Frame, shown, shown_by, around_hole}
 use Rattle.sx_model.specs.Records.{NodeRow, rows}
-use Rattle.sx_model.specs.State.{State}
 use Rattle.sx_model.specs.Tree.{Node, Forest, levels}
 use Rattle.sx_model.proofs.Holes.{rows-plug}
 use Rattle.sx_edit.specs.declared.fault.EditFault.{EditFault}
-use Rattle.sx_edit.specs.declared.fault.EditFault.TheVariants.{Refused, Failed, Damaged, OutOfMemory}
 use Rattle.sx_edit.specs.Damage.{IsDamaged}
 use Rattle.sx_edit.specs.EditFault.{edit_fault}
 use Rattle.sx_edit.specs.Edited.{no_path}

@@ -1,6 +1,6 @@
 -- What comes into a gap among siblings, and what is left to mend then.
 use Rattle.std.specs.Prelude.{◌==◌}
-use Rattle.std.proofs.Common.{◌≡◌, ℕ, suc, ◌+◌, ◌≤◌, ◌<◌, List, [], ◌∷◌, ◌++◌, Option, Some, None, refl, sym, ap, subst, ◌∙◌, arith, append_assoc, append-nil, add-zero}
+use Rattle.std.proofs.Common.{◌≡◌, ℕ, suc, ◌+◌, ◌≤◌, List, [], ◌∷◌, ◌++◌, Option, Some, None, refl, sym, ap, subst, ◌∙◌, arith, append_assoc, append-nil, add-zero}
 use Rattle.std.specs.Prelude.{◌^◌}
 use Rattle.std.specs.Option.{option_or}
 use Rattle.std.proofs.lemmas.Grind.{common_steps}
@@ -10,7 +10,7 @@ use Rattle.sx_view.specs.Records.{RecordMap}
 use Rattle.sx_view.specs.Rows.{row_of}
 use Rattle.sx_model.specs.Edit.{entering}
 use Rattle.sx_model.specs.Hash.{local_hash}
-use Rattle.sx_model.specs.Holes.{Frame, Shown, plug, shown, around_hole, rows_before, rows_behind}
+use Rattle.sx_model.specs.Holes.{Frame, Shown, shown, around_hole, rows_before, rows_behind}
 use Rattle.sx_model.specs.Records.{Around, NodeRow, around_children, first_of, last_of, row, rows}
 use Rattle.sx_model.specs.Sound.{AreBelow}
 use Rattle.sx_model.specs.Tree.{AreApart, Node, Forest, no_trees, tree_then, beside, numbers, size}

@@ -1,5 +1,5 @@
 -- A value's tree, child by child.
-use Rattle.std.proofs.Common.{◌≡◌, ℕ, zero, suc, ◌+◌, ◌-◌, ◌*◌, ◌≤◌, ◌<◌, Bool, true, false, nat_lt, List, [], ◌∷◌, ◌++◌, length, map, take, get_or, Option, Some, None, refl, sym, ap, subst, ◌∙◌, arith, append-nil, mul_comm, rules}
+use Rattle.std.proofs.Common.{◌≡◌, ℕ, zero, suc, ◌+◌, ◌-◌, ◌*◌, ◌≤◌, ◌<◌, Bool, true, nat_lt, List, [], ◌∷◌, ◌++◌, length, map, take, get_or, Option, Some, None, refl, sym, ap, subst, ◌∙◌, arith, append-nil, mul_comm, rules}
 use Rattle.std.specs.Prelude.{◌%◌, ◌^◌}
 use Rattle.std.specs.Option.{option_or}
 use Rattle.std.proofs.Math.ListN.{length-map}
@@ -18,8 +18,8 @@ use Rattle.sx_view.specs.Rows.{row_of}
 use Rattle.sx_model.specs.Hash.{local_hash, hash_of}
 use Rattle.sx_model.specs.Numbered.{numbered, numbered_values, numbered_fields}
 use Rattle.sx_model.specs.Tree.{Node, Forest, no_trees, tree_then, beside, size}
-use Rattle.sx_model.specs.Records.{NodeRow, Around, around_children, last_of, row, rows}
-use Rattle.sx_model.specs.Holes.{Shown, join, shown}
+use Rattle.sx_model.specs.Records.{NodeRow, Around, around_children, last_of, row}
+use Rattle.sx_model.specs.Holes.{join, shown}
 use Rattle.sx_tree.proofs.ValueTrees.{nodes_of_values-more}
 use Rattle.sx_model.proofs.NumberedTrees.{scalar_number}
 use Rattle.sx_model.proofs.Holes.{or_none, rows-beside, shown-beside}

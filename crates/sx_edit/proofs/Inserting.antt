@@ -1,8 +1,7 @@
 -- What inserting a value answers over the records of a state.
-use Rattle.std.proofs.Common.{◌≡◌, ℕ, ◌+◌, ◌≤◌, ◌<◌, Bool, true, false, not, ◌&&◌, List, [], ◌∷◌, ◌++◌, Option, Some, None, Result, Ok, Err, refl, sym, ap, subst, ◌∙◌, arith, append_assoc, if◌then◌else◌}
+use Rattle.std.proofs.Common.{◌≡◌, ℕ, ◌+◌, ◌≤◌, Bool, true, false, not, ◌&&◌, List, [], ◌∷◌, Option, Some, None, Result, Ok, Err, refl, sym, ap, subst, ◌∙◌, arith, append_assoc, if◌then◌else◌}
 use Rattle.std.specs.Prelude.{◌^◌, IsErrAnd, IsTrue, bytes_eq, find, is_none, is_some, option_and_then, option_map}
 use Rattle.std.specs.Option.{option_or}
-use Rattle.std.proofs.lemmas.Bool.{false≢true}
 use Rattle.std.proofs.lemmas.Grind.{common_steps}
 use Rattle.sx_tree.specs.declared.edit.Edited.{Edited}
 use Rattle.sx_tree.specs.declared.edit.EditRefusal.{EditRefusal}
@@ -16,8 +15,8 @@ use Rattle.sx_view.specs.declared.fault.Fault.{Fault}
 use Rattle.sx_view.specs.Records.{RecordMap}
 use Rattle.sx_model.specs.Edit.{insert, apply, unless, when, name_taken, document_full, too_deep, numbers_spent, paths_spent, entering, inserted, with_trees}
 use Rattle.sx_model.specs.Hash.{local_hash}
-use Rattle.sx_model.specs.Holes.{Frame, Shown, plug, filled, shown, around_hole, rows_before, rows_behind}
-use Rattle.sx_model.specs.Records.{NodeRow, Around, around_children, first_of, last_of, rows}
+use Rattle.sx_model.specs.Holes.{Frame, plug, filled, shown, around_hole, rows_before, rows_behind}
+use Rattle.sx_model.specs.Records.{first_of, last_of}
 use Rattle.sx_model.specs.Sound.{AreBelow}
 use Rattle.sx_model.specs.State.{State}
 use Rattle.sx_model.specs.Tree.{Node, Forest, no_trees, tree_then, beside, is_document, is_key, is_object, is_value, may_stand_below, numbers, tops, FitBelow, size}

@@ -1,6 +1,6 @@
 -- The Document's child in the trees of a state.
-use Rattle.std.proofs.Common.{◌≡◌, ℕ, List, [], ◌∷◌, Option, Some, None, Result, Ok, Err, refl, sym, ap, subst, ◌∙◌}
-use Rattle.std.specs.Prelude.{length, option_and_then, option_map, slice_get}
+use Rattle.std.proofs.Common.{◌≡◌, ℕ, [], Option, Some, None, Result, Ok, Err, refl, sym, ap, subst, ◌∙◌}
+use Rattle.std.specs.Prelude.{option_and_then, option_map}
 use Rattle.std.specs.Option.{ForSome}
 use Rattle.std.specs.FinMap as fin
 use Rattle.sx_tree.specs.declared.edit.Edited.{Edited}
@@ -10,14 +10,13 @@ use Rattle.sx_tree.specs.Value.{Value}
 use Rattle.sx_view.specs.Records.{RecordMap}
 use Rattle.sx_view.specs.Rows.{row_of}
 use Rattle.sx_model.specs.Edit.{Edit, apply, child_of, first_new, insert, load, load_over, replace}
-use Rattle.sx_model.specs.Hash.{local_hash}
-use Rattle.sx_model.specs.Records.{NodeRow, at_top, first_of, row, rows}
+use Rattle.sx_model.specs.Records.{NodeRow, first_of}
 use Rattle.sx_model.specs.State.{State}
-use Rattle.sx_model.specs.Tree.{Node, Forest, no_trees, tree_then, numbers, IsWellFormed}
+use Rattle.sx_model.specs.Tree.{Node, Forest, no_trees, tree_then, IsWellFormed}
 use Rattle.sx_edit.specs.declared.fault.EditFault.{EditFault}
 use Rattle.sx_edit.specs.declared.fault.EditFault.TheVariants.{Refused, Failed, Damaged, OutOfMemory}
 use Rattle.sx_edit.specs.Answers.{AreOf, Answers, AnswersEach}
-use Rattle.sx_edit.specs.Edited.{no_path, rows_in}
+use Rattle.sx_edit.specs.Edited.{rows_in}
 use Rattle.sx_edit.specs.Told.{Holds, Shows}
 use Rattle.sx_edit.proofs.Looking.{shows-state}
 use Rattle.sx_edit.proofs.Showing.{shows-get}

@@ -1,9 +1,9 @@
 -- Where a new value comes, in the trees of a state.
 use Rattle.std.specs.Prelude.{◌==◌}
-use Rattle.std.proofs.Common.{◌≡◌, ℕ, ◌+◌, ◌≤◌, ◌<◌, Bool, true, false, ◌||◌, List, [], ◌∷◌, Option, Some, None, Result, Ok, Err, refl, sym, ap, subst, ◌∙◌, arith, if◌then◌else◌}
-use Rattle.std.specs.Prelude.{All, IfErr, IsErrAnd}
+use Rattle.std.proofs.Common.{◌≡◌, ℕ, ◌≤◌, Bool, true, false, ◌||◌, List, [], ◌∷◌, Option, Some, None, Result, Ok, Err, refl, sym, ap, subst, ◌∙◌, arith, if◌then◌else◌}
+use Rattle.std.specs.Prelude.{IfErr, IsErrAnd}
 use Rattle.std.specs.List.{list_any}
-use Rattle.std.specs.Option.{option_or, ForSome}
+use Rattle.std.specs.Option.{ForSome}
 use Rattle.std.specs.FinMap as fin
 use Rattle.std.proofs.lemmas.Bool.{false≢true}
 use Rattle.std.proofs.lemmas.Grind.{common_steps}
@@ -17,7 +17,7 @@ use Rattle.sx_view.specs.Records.{RecordMap}
 use Rattle.sx_view.specs.Rows.{row_of}
 use Rattle.sx_model.specs.Edit.{Target, apply, if_place, if_there, insert, insert_below, must_stay, target_below, target_beside}
 use Rattle.sx_model.specs.Hash.{local_hash}
-use Rattle.sx_model.specs.Holes.{Frame, Shown, plug, shown}
+use Rattle.sx_model.specs.Holes.{Frame, Shown, plug}
 use Rattle.sx_model.specs.Records.{NodeRow, first_of, last_of}
 use Rattle.sx_model.specs.Sound.{AreBelow}
 use Rattle.sx_model.specs.State.{State}

@@ -1,6 +1,6 @@
 -- What replacing a node answers over the records of a state.
-use Rattle.std.proofs.Common.{◌≡◌, ℕ, suc, ◌+◌, ◌≤◌, ◌<◌, Bool, true, false, List, [], ◌∷◌, ◌++◌, Option, Some, None, Result, Ok, Err, refl, sym, ap, subst, ◌∙◌, arith, append_assoc}
-use Rattle.std.specs.Prelude.{All, IsErrAnd, IsTrue, not, ◌^◌}
+use Rattle.std.proofs.Common.{◌≡◌, ℕ, suc, ◌+◌, ◌≤◌, ◌<◌, Bool, true, false, List, [], ◌∷◌, ◌++◌, Option, Some, None, Result, Ok, Err, sym, ap, subst, ◌∙◌, arith, append_assoc}
+use Rattle.std.specs.Prelude.{All, IsErrAnd, IsTrue, not}
 use Rattle.std.specs.Option.{option_or, ForSome}
 use Rattle.std.specs.FinMap as fin
 use Rattle.sx_tree.specs.declared.edit.Edited.{Edited}
@@ -13,7 +13,7 @@ use Rattle.sx_view.specs.Records.{RecordMap}
 use Rattle.sx_view.specs.Rows.{row_of}
 use Rattle.sx_model.specs.Edit.{replace, apply, if_there, unless, wrong_kind, too_deep, numbers_spent, paths_spent, with_trees}
 use Rattle.sx_model.specs.Hash.{local_hash}
-use Rattle.sx_model.specs.Holes.{Frame, Shown, plug, shown, rows_before, rows_behind, around_hole}
+use Rattle.sx_model.specs.Holes.{Frame, Shown, plug, shown, around_hole}
 use Rattle.sx_model.specs.Numbered.{numbered}
 use Rattle.sx_model.specs.Records.{NodeRow, around_children, rows}
 use Rattle.sx_model.specs.Sound.{AreBelow}
@@ -30,7 +30,7 @@ use Rattle.sx_edit.specs.Answers.{AreOf, Answers, AnswersEach}
 use Rattle.sx_edit.specs.Edited.{no_path, rows_in}
 use Rattle.sx_edit.specs.Fill.{IsFilled}
 use Rattle.sx_edit.specs.Mend.{IsTakenOut, opened}
-use Rattle.sx_edit.specs.Room.{nodes_of, IsSite, MakesRoom, Passes}
+use Rattle.sx_edit.specs.Room.{nodes_of, MakesRoom, Passes}
 use Rattle.sx_edit.specs.Told.{Shows, numbers_of}
 use Rattle.sx_edit.proofs.Answering.{IsNoState, paths-room}
 use Rattle.sx_edit.proofs.Climbing.{map-append, numbers-rows}

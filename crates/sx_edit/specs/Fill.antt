@@ -1,10 +1,9 @@
 -- A value that comes into a gap among siblings.
-use Rattle.std.specs.Prelude.{◌≡◌, ℕ, suc, ◌+◌, ◌≤◌, List, [], ◌∷◌, Option, None, Some}
+use Rattle.std.specs.Prelude.{◌≡◌, ℕ, ◌+◌, ◌≤◌, List, ◌∷◌, Option, None, Some}
 use Rattle.sx_tree.specs.declared.record.Kind.TheVariants.{Key}
 use Rattle.sx_tree.specs.declared.record.NodeRecord.{NodeRecord}
 use Rattle.sx_tree.specs.Value.{Value, nodes}
 use Rattle.sx_view.specs.Records.{RecordMap}
-use Rattle.sx_model.specs.Edit.{entering}
 use Rattle.sx_model.specs.Hash.{local_hash}
 use Rattle.sx_model.specs.Holes.{Frame, plug, shown}
 use Rattle.sx_model.specs.Numbered.{numbered}

@@ -1,17 +1,16 @@
 -- The tree of a value, written below its top.
-use Rattle.std.specs.Prelude.{◌≡◌, ℕ, suc, ◌+◌, ◌%◌, ◌^◌, Bool, true, false, List, [], ◌∷◌, ◌++◌, Option, None, Some}
+use Rattle.std.specs.Prelude.{◌≡◌, ℕ, suc, ◌+◌, ◌%◌, ◌^◌, Bool, true, false, List, [], ◌++◌, Option, None, Some}
 use Rattle.std.specs.Option.{option_or}
-use Rattle.sx_tree.specs.declared.record.Kind.{Kind}
 use Rattle.sx_tree.specs.declared.record.Kind.TheVariants.{Object, Array, Key}
 use Rattle.sx_tree.specs.declared.record.NodeRecord.{NodeRecord}
 use Rattle.sx_tree.specs.Value.{Value, scalar, array, object}
 use Rattle.sx_view.specs.Records.{RecordMap}
 use Rattle.sx_view.specs.Rows.{row_of}
 use Rattle.sx_model.specs.Hash.{local_hash}
-use Rattle.sx_model.specs.Numbered.{numbered, numbered_values, numbered_fields, scalar_node}
+use Rattle.sx_model.specs.Numbered.{numbered_values, numbered_fields, scalar_node}
 use Rattle.sx_model.specs.Tree.{Node, Forest, no_trees, tree_then}
 use Rattle.sx_model.specs.Records.{NodeRow, Around, at_top, row, rows}
-use Rattle.sx_model.specs.Holes.{Shown, shown}
+use Rattle.sx_model.specs.Holes.{Shown}
 use Rattle.sx_edit.specs.Edited.{no_path}
 use Rattle.sx_edit.specs.Told.{Holds, AreDistinct, numbers_of}
 use Rattle.sx_edit.specs.declared.trees.Children.{Children}

@@ -1,5 +1,5 @@
 -- Where a new value comes, by the records.
-use Rattle.std.specs.Prelude.{◌≡◌, ℕ, Bool, true, false, List, ◌∷◌, Option, None, Some, Result, Err, option_and_then, option_map, find, ◌&&◌, bytes_eq}
+use Rattle.std.specs.Prelude.{◌≡◌, ℕ, Bool, true, false, List, ◌∷◌, Option, Some, Result, Err, option_and_then, option_map, find, ◌&&◌, bytes_eq}
 use Rattle.std.specs.Option.{option_or}
 use Rattle.sx_tree.specs.declared.edit.Place.{Place}
 use Rattle.sx_tree.specs.declared.edit.Place.TheVariants.{First, Last, Before, After}

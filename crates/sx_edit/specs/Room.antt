@@ -1,5 +1,5 @@
 -- Whether a document has room for what an edit brings.
-use Rattle.std.specs.Prelude.{◌≡◌, ℕ, ◌+◌, ◌≤◌, List, [], ◌∷◌, length, Option, None, Some, option_map, Result, Ok, Err}
+use Rattle.std.specs.Prelude.{◌≡◌, ℕ, ◌+◌, ◌≤◌, List, [], ◌∷◌, length, Option, None, Some, Result, Ok, Err}
 use Rattle.std.specs.Option.{option_or}
 use Rattle.sx_tree.specs.declared.edit.EditRefusal.{EditRefusal}
 use Rattle.sx_tree.specs.declared.record.Kind.{Kind}

@@ -1,4 +1,4 @@
-use Rattle.std.proofs.Common.{◌+◌, arith}
+use Rattle.std.proofs.Common.{arith}
 use Rattle.sx_edit.proofs.Results.{if_ok-then, on_ok-then}
 use Rattle.sx_edit.proofs.Growing.{down-top, key-entered, under_key}
 use Rattle.sx_edit.proofs.fill.enter.Goals as goal

@@ -1,4 +1,4 @@
-use Rattle.std.proofs.Common.{refl, ◌+◌, arith}
+use Rattle.std.proofs.Common.{refl, arith}
 use Rattle.sx_edit.proofs.Results.{on_ok-then, if_err-then}
 use Rattle.sx_edit.proofs.Filling.{down-entering, filled}
 use Rattle.sx_edit.proofs.fill.fill.Goals as goal

@@ -1,8 +1,5 @@
-use Rattle.std.proofs.Common.{◌≡◌, ◌+◌, ◌-◌, ◌^◌, rules, suc, length, get_or, take, take_all, map, ap, sym, subst, refl, arith, ◌∙◌}
-use Rattle.std.proofs.Math.ListN.{length-map}
+use Rattle.std.proofs.Common.{rules, arith}
 use Rattle.sx_tree.specs.declared.json.Json.{the_lemmas}
-use Rattle.sx_tree.specs.Value.{values_of, fields_of}
-use Rattle.sx_edit.proofs.Adding.{added-none}
 use Rattle.sx_edit.proofs.Going.{goes_itself, goes_then}
 use Rattle.sx_edit.proofs.Growing.{scalar-added, hung-as, hung-long, down-key, down-top, hung-right, items-room, items-turn, left_over, member-there, members-long, members-room, members-turn, none-hung}
 use Rattle.sx_edit.proofs.grow.+grow.Goals as goal

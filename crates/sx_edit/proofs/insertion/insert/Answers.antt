@@ -1,8 +1,8 @@
-use Rattle.std.proofs.Common.{None, refl, sym, ap, arith, ◌∙◌, ◌+◌}
+use Rattle.std.proofs.Common.{refl, sym, ◌∙◌}
 use Rattle.std.specs.Option.{option_copied}
 use Rattle.sx_tree.specs.Value.{value_of}
 use Rattle.sx_edit.proofs.Going.{goes_itself, goes_then}
-use Rattle.sx_edit.proofs.Answering.{again-explains_edit, err-answers, err-explains_edit}
+use Rattle.sx_edit.proofs.Answering.{again-explains_edit, err-answers}
 use Rattle.sx_edit.proofs.Inserting.{checks-there, count-below, entering-room, insert-cannot, insert-done, insert-no_room, insert-unchecked, insert-unnamed, insert-unplaced, named-below}
 use Rattle.sx_edit.proofs.insertion.insert.Goals as goal
 

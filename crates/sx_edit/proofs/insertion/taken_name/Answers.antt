@@ -1,4 +1,4 @@
-use Rattle.std.proofs.Common.{ap, ◌∙◌}
+use Rattle.std.proofs.Common.{ap}
 use Rattle.std.specs.Option.{option_copied}
 use Rattle.sx_edit.proofs.Results.{if_err-then, if_ok-then}
 use Rattle.sx_edit.proofs.Inserting.{taken-found, taken-no_object, taken-unasked}

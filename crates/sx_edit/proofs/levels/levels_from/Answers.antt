@@ -1,7 +1,7 @@
-use Rattle.std.proofs.Common.{◌+◌, ◌-◌, ◌∙◌, subst, sym, arith}
+use Rattle.std.proofs.Common.{◌+◌, ◌-◌, ◌∙◌, subst, arith}
 use Rattle.sx_edit.specs.Room.{CountsLevels}
 use Rattle.sx_edit.proofs.Results.{err_again}
-use Rattle.sx_edit.proofs.Going.{err-explains, goes_itself, goes_then}
+use Rattle.sx_edit.proofs.Going.{err-explains, goes_then}
 use Rattle.sx_edit.proofs.Counting.{count-more, counts-absent, counts-all, counts-endless, counts-next}
 use Rattle.sx_edit.proofs.levels.levels_from.Goals as goal
 

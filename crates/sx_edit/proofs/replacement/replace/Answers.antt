@@ -1,4 +1,4 @@
-use Rattle.std.proofs.Common.{None, ◌+◌, ◌∙◌, arith, refl, sym}
+use Rattle.std.proofs.Common.{None, ◌∙◌, arith, refl, sym}
 use Rattle.sx_tree.specs.Value.{value_of}
 use Rattle.sx_edit.specs.Answers.{AnswersEach}
 use Rattle.sx_edit.proofs.Going.{goes_itself}
