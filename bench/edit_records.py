@@ -62,6 +62,32 @@ def pairs(last):
     return document(Node(1, "Array", b"", [left, right]))
 
 
+def array(items):
+    """An array, whose elements have these numbers and texts."""
+    return document(Node(1, "Array", b"", [number(place, text) for place, text in items]))
+
+
+def three(place):
+    """The array of 1, 2 and 3 with a 7 at the place."""
+    items = [(2, "1"), (3, "2"), (4, "3")]
+    return array([*items[:place], (5, "7"), *items[place:]])
+
+
+def replaced(node):
+    """The array of 1, 2 and 3 with an array in the place of the node."""
+    new = Node(5, "Array", b"", [Node(6, "Array"), Node(7, "Str", b"x")])
+    items = [new if place == node else number(place, str(place - 1)) for place in (2, 3, 4)]
+    return document(Node(1, "Array", b"", items))
+
+
+def members(at):
+    """The fields with one more member at the place."""
+    root = fields().children[0]
+    array = Node(12, "Array", b"", [Node(13, "Bool", b"\1"), Node(14, "Null")])
+    key = Node(9, "Key", b"c", [Node(10, "Object", b"", [Node(11, "Key", b"d", [array])])])
+    return document(Node(1, "Object", b"", [*root.children[:at], key, *root.children[at:]]))
+
+
 def deep(depth):
     node = number(depth + 1, "1")
     for place in range(depth, 0, -1):
@@ -82,6 +108,19 @@ TABLES = {
     "EMPTY": document(),
     "PAIRS": pairs("1"),
     "MIRRORED": pairs("2"),
+    "THREE": array([(2, "1"), (3, "2"), (4, "3")]),
+    "NEW_ALONE": array([(2, "7")]),
+    "NEW_BEFORE": array([(3, "7"), (2, "1")]),
+    "NEW_BEHIND": array([(2, "1"), (3, "7")]),
+    "NEW_AT_0": three(0),
+    "NEW_AT_1": three(1),
+    "NEW_AT_2": three(2),
+    "NEW_AT_3": three(3),
+    "NEW_MEMBER": members(1),
+    "FIRST_REPLACED": replaced(2),
+    "MIDDLE_REPLACED": replaced(3),
+    "LAST_REPLACED": replaced(4),
+    "LOADED": document(Node(3, "Object", b"", [Node(4, "Key", b"a", [number(5, "1")])])),
 }
 
 if sys.argv[1:] == ["deep"]:

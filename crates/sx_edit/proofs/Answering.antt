@@ -63,11 +63,24 @@ module _ {V T : Type 0} (told : V → Option T) (faults : V → ℕ) (has_mark :
   fault_explains next a b c (reading.Damaged d) first is = explains_later told faults has_mark marks next a b c (reading.Damaged d) first is
   fault_explains next a b c reading.OutOfMemory first is = tt
 
-  pub err-explains_edit : (next : ℕ) (a b c : V) (r : Result Edited EditFault) (fault : Fault) → IsErrAnd r (λ e. e ≡ edit_fault fault) → GoesOn told faults has_mark marks a b
+  pub err-explains_edit : {A : Type 0} (next : ℕ) (a b c : V) (r : Result A EditFault) (fault : Fault) → IsErrAnd r (λ e. e ≡ edit_fault fault) → GoesOn told faults has_mark marks a b
       → Explains next (told b) (Rose (faults b) (faults c)) fault → IfErr r (ExplainsEdit next (told a) (Rose (faults a) (faults c)))
   err-explains_edit next a b c (Ok x) fault is first holds = absurd is
   err-explains_edit next a b c (Err e) fault is first holds =
       subst (ExplainsEdit next (told a) (Rose (faults a) (faults c))) (sym is) (fault_explains next a b c fault first holds)
+
+  later_explains : (next : ℕ) (a b c : V) (e : EditFault) → GoesOn told faults has_mark marks a b
+      → ExplainsEdit next (told b) (Rose (faults b) (faults c)) e → ExplainsEdit next (told a) (Rose (faults a) (faults c)) e
+  later_explains next a b c (Refused refusal) first is = tt
+  later_explains next a b c Failed first is = explains_later told faults has_mark marks next a b c reading.Failed first is
+  later_explains next a b c (Damaged d) first is = explains_later told faults has_mark marks next a b c (reading.Damaged d) first is
+  later_explains next a b c OutOfMemory first is = tt
+
+  -- a fault of an edit that goes on
+  pub again-explains_edit : {A : Type 0} (next : ℕ) (a b c : V) (r : Result A EditFault) (e : EditFault) → IsErrAnd r (λ x. x ≡ e) → GoesOn told faults has_mark marks a b
+      → ExplainsEdit next (told b) (Rose (faults b) (faults c)) e → IfErr r (ExplainsEdit next (told a) (Rose (faults a) (faults c)))
+  again-explains_edit next a b c (Ok x) e is first holds = absurd is
+  again-explains_edit next a b c (Err x) e is first holds = subst (ExplainsEdit next (told a) (Rose (faults a) (faults c))) (sym is) (later_explains next a b c e first holds)
 
   pub memory-explains_edit : (next : ℕ) (a c : V) (r : Result Edited EditFault) → IsErrAnd r (λ e. e ≡ OutOfMemory) → IfErr r (ExplainsEdit next (told a) (Rose (faults a) (faults c)))
   memory-explains_edit next a c (Ok x) is = absurd is

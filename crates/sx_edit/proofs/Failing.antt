@@ -20,7 +20,7 @@ big_top local [] a = omega arith
 big_top local (frame ∷ frames) a = omega (arith, big_top local frames (shown_by local frame a))
 
 -- what the record of the node above the hole is
-known : (n : ℕ) (o : Option (RecordMap NodeRecord)) (found : Option NodeRecord) (local : Kind → List ℕ → ℕ) (number : List Step → ℕ) (frames : List Frame) (frame : Frame) (a : Shown) (hole : List (ℕ × NodeRow))
+pub known : (n : ℕ) (o : Option (RecordMap NodeRecord)) (found : Option NodeRecord) (local : Kind → List ℕ → ℕ) (number : List Step → ℕ) (frames : List Frame) (frame : Frame) (a : Shown) (hole : List (ℕ × NodeRow))
     → ForSome o (λ m. fin.get m n ≡ found) → AreNew (frame ∷ frames) → frame.node.number ≡ n → Holds o (whole local number (frame ∷ frames) a hole)
     → option_map row_of found ≡ Some (frame_row local number frames frame a)
 known n o found local number frames frame a hole there new same holds =

@@ -18,3 +18,12 @@ pub mod Mending
 pub mod Splicing
 pub mod Naming
 pub mod NewNames
+pub mod Adding
+pub mod Growing
+pub mod Counting
+pub mod Filling
+pub mod Refusing
+pub mod Replacing
+pub mod Placing
+pub mod Inserting
+pub mod LoadingOver

@@ -30,7 +30,7 @@ test_same k m = grind (arith, common_steps)
 pub any-same : (k : ℕ) (ks : List ℕ) → list_any (λ m. k == m) ks ≡ list_any (eq_by_cmp nat_cmp k) ks
 any-same k ks = ap (λ (p : ℕ → Bool). list_any p ks) (λ i m. test_same k m i)
 
-distinct-same : (ks : List ℕ) → AreDistinctNumbers ks → AreDistinct ks
+pub distinct-same : (ks : List ℕ) → AreDistinctNumbers ks → AreDistinct ks
 distinct-same [] is = tt
 distinct-same (k ∷ ks) is = (sym (any-same k ks) ∙ is.0, distinct-same ks is.1)
 

@@ -16,12 +16,12 @@ use Rattle.sx_edit.specs.Names.{is_sought, FindsKey}
 use Rattle.sx_edit.proofs.Climbing.{some_is}
 use Rattle.sx_edit.proofs.Showing.{shows-get}
 
-pub finds-none : (except : ℕ) (name : List ℕ) (first : Option ℕ) (limit : ℕ) (o : Option (RecordMap NodeRecord)) → first ≡ None → FindsKey except name first limit o (Some None)
+pub finds-none : (except : Option ℕ) (name : List ℕ) (first : Option ℕ) (limit : ℕ) (o : Option (RecordMap NodeRecord)) → first ≡ None → FindsKey except name first limit o (Some None)
 unfolding FindsKey
 finds-none except name first limit o is local number around no_trees xs ys begin last few shows = refl
 finds-none except name first limit o is local number around (tree_then n below rest) xs ys begin last few shows = absurd cc
 
-pub finds-endless : (except : ℕ) (name : List ℕ) (first : Option ℕ) (k limit : ℕ) (o : Option (RecordMap NodeRecord)) → first ≡ Some k → limit ≡ 0 → FindsKey except name first limit o None
+pub finds-endless : (except : Option ℕ) (name : List ℕ) (first : Option ℕ) (k limit : ℕ) (o : Option (RecordMap NodeRecord)) → first ≡ Some k → limit ≡ 0 → FindsKey except name first limit o None
 unfolding FindsKey
 finds-endless except name first k limit o is none local number around no_trees xs ys begin last few shows = absurd cc
 finds-endless except name first k limit o is none local number around (tree_then n below rest) xs ys begin last few shows = absurd (omega arith)
@@ -35,7 +35,7 @@ first-there first k there o local number around n below rest xs ys is found begi
     let there_n : ForSome o (λ m. there ≡ fin.get m n.number) = rw same at (λ (m : RecordMap NodeRecord) (e : o ≡ Some m). sym (found m e)) in
     shows-get o there xs _ n.number _ shows there_n
 
-pub finds-absent : (except : ℕ) (name : List ℕ) (first : Option ℕ) (k limit : ℕ) (o : Option (RecordMap NodeRecord)) → first ≡ Some k → ForSome o (λ m. fin.get m k ≡ None) → FindsKey except name first limit o None
+pub finds-absent : (except : Option ℕ) (name : List ℕ) (first : Option ℕ) (k limit : ℕ) (o : Option (RecordMap NodeRecord)) → first ≡ Some k → ForSome o (λ m. fin.get m k ≡ None) → FindsKey except name first limit o None
 unfolding FindsKey
 finds-absent except name first k limit o is found local number around no_trees xs ys begin last few shows = absurd cc
 finds-absent except name first k limit o is found local number around (tree_then n below rest) xs ys begin last few shows =
@@ -45,7 +45,7 @@ finds-absent except name first k limit o is found local number around (tree_then
 find-first : (p : Node → Bool) (n : Node) (ns : List Node) (b : Bool) → p n ≡ b → find p (n ∷ ns) ≡ cond b (Some n) (find p ns)
 find-first p n ns b is = ap (λ (b : Bool). cond b (Some n) (find p ns)) is
 
-pub finds-here : (except : ℕ) (name : List ℕ) (first : Option ℕ) (k limit : ℕ) (r : NodeRecord) (o : Option (RecordMap NodeRecord)) → first ≡ Some k → ForSome o (λ m. fin.get m k ≡ Some r)
+pub finds-here : (except : Option ℕ) (name : List ℕ) (first : Option ℕ) (k limit : ℕ) (r : NodeRecord) (o : Option (RecordMap NodeRecord)) → first ≡ Some k → ForSome o (λ m. fin.get m k ≡ Some r)
     → is_sought except name k r.kind r.label ≡ true → FindsKey except name first limit o (Some (Some k))
 unfolding FindsKey
 finds-here except name first k limit r o is found sought local number around no_trees xs ys begin last few shows = absurd cc
@@ -58,7 +58,7 @@ finds-here except name first k limit r o is found sought local number around (tr
     let first_is = find-first (λ m. is_sought except name m.number m.kind m.label) n (tops rest) true here in
     ap (λ q. Some (Some q)) same ∙ sym (ap (λ q. Some (option_map (λ (m : Node). m.number) q)) first_is)
 
-pub finds-next : (except : ℕ) (name : List ℕ) (first : Option ℕ) (k limit fewer : ℕ) (r : NodeRecord) (o : Option (RecordMap NodeRecord)) (answer : Option (Option ℕ)) → first ≡ Some k
+pub finds-next : (except : Option ℕ) (name : List ℕ) (first : Option ℕ) (k limit fewer : ℕ) (r : NodeRecord) (o : Option (RecordMap NodeRecord)) (answer : Option (Option ℕ)) → first ≡ Some k
     → ForSome o (λ m. fin.get m k ≡ Some r) → is_sought except name k r.kind r.label ≡ false → limit - 1 ≡ fewer → FindsKey except name r.right fewer o answer
     → FindsKey except name first limit o answer
 unfolding FindsKey

@@ -26,7 +26,7 @@ use Rattle.sx_edit.specs.Answers.{AreOf, AnswersEach}
 use Rattle.sx_edit.proofs.Climbing.{some_is}
 use Rattle.sx_edit.proofs.Standing.{own_row}
 use Rattle.sx_edit.proofs.Relabeling.{deep-plug}
-use Rattle.sx_edit.proofs.Seeking.{nodes_of}
+use Rattle.sx_edit.specs.Room.{nodes_of}
 use Rattle.sx_edit.proofs.Looking.{IsSeen}
 use Rattle.sx_edit.proofs.Mending.{count-size}
 use Rattle.sx_edit.proofs.Answering.{IsNoState, paths-room}
@@ -57,6 +57,10 @@ top-kind Str is = refl
 top-kind Number is = refl
 top-kind Truth is = refl
 top-kind Null is = refl
+
+pub taken_of : (found : Option Node) → option_map (λ n. NameTaken n.number) found ≡ option_map NameTaken (option_map (λ n. n.number) found)
+taken_of None = refl
+taken_of (Some n) = refl
 
 module _ (k : ℕ) (name : List ℕ) (next : ℕ) (r : NodeRecord) where
   rename-apply : (state : State) (o : Option (RecordMap NodeRecord)) (s : IsSeen k state o r)
@@ -100,7 +104,7 @@ module _ (k : ℕ) (name : List ℕ) (next : ℕ) (r : NodeRecord) where
   -- what was found is what the state says
   sought : (before : Option (RecordMap NodeRecord)) (p : NodeRecord) (parent : ℕ) (answer : Option (Option ℕ)) (frames : List Frame) (left : Forest) (n : Node) (below right : Forest)
       → n.number ≡ k → row_of r ≡ own_row local_hash no_path frames left n below right → r.parent ≡ Some parent → ForSome before (λ m. fin.get m parent ≡ Some p)
-      → size (plug frames (beside left (tree_then n below right))) ≤ next → FindsKey k name p.first next before answer
+      → size (plug frames (beside left (tree_then n below right))) ≤ next → FindsKey (Some k) name p.first next before answer
       → Shows before (rows_in (plug frames (beside left (tree_then n below right))))
       → answer ≡ Some (option_map (λ m. m.number) (find (λ m. is_key m.kind && bytes_eq m.label name) (filter (λ m. not (m.number == n.number)) (tops (beside left (tree_then n below right))))))
   unfolding FindsKey
@@ -118,24 +122,20 @@ module _ (k : ℕ) (name : List ℕ) (next : ℕ) (r : NodeRecord) where
       ∙ (λ i. Some (option_map (λ m. m.number) (find (λ m. not (m.number == sym same i) && (is_key m.kind && bytes_eq m.label name)) (tops inside))))
       ∙ ap (λ f. Some (option_map (λ m. m.number) f)) (sym (find-filter (λ m. is_key m.kind && bytes_eq m.label name) (λ m. not (m.number == n.number)) (tops inside)))
 
-  taken_of : (found : Option Node) → option_map (λ n. NameTaken n.number) found ≡ option_map NameTaken (option_map (λ n. n.number) found)
-  taken_of None = refl
-  taken_of (Some n) = refl
-
   -- the refusal for the name, by what was found
   taken_is : (state : State) (before now : Option (RecordMap NodeRecord)) (p : NodeRecord) (parent : ℕ) (taken : Option ℕ) → AreOf state next before → (s : IsSeen k state before r)
-      → r.parent ≡ Some parent → ForSome before (λ m. fin.get m parent ≡ Some p) → now ≡ before → FindsKey k name p.first next now (Some taken)
+      → r.parent ≡ Some parent → ForSome before (λ m. fin.get m parent ≡ Some p) → now ≡ before → FindsKey (Some k) name p.first next now (Some taken)
       → let q : Spot = record { above = nodes_of s.at.around; siblings = beside s.at.left (tree_then s.at.node s.at.below s.at.right); node = s.at.node; below = s.at.below } in
       name_taken name (other_keys q) ≡ option_map NameTaken taken
   taken_is state before now p parent taken are s up there same finds =
       let few : size (plug s.at.around (beside s.at.left (tree_then s.at.node s.at.below s.at.right))) ≤ next = subst (λ t. size t ≤ next) s.at.stands are.few in
-      let finds_before : FindsKey k name p.first next before (Some taken) = subst (λ o. FindsKey k name p.first next o (Some taken)) same finds in
+      let finds_before : FindsKey (Some k) name p.first next before (Some taken) = subst (λ o. FindsKey (Some k) name p.first next o (Some taken)) same finds in
       let found = sought before p parent (Some taken) s.at.around s.at.left s.at.node s.at.below s.at.right s.at.number s.row up there few finds_before s.shows in
       let taken_found : taken ≡ option_map (λ m. m.number) (find (λ m. is_key m.kind && bytes_eq m.label name) (filter (λ m. not (m.number == s.at.node.number)) (tops (beside s.at.left (tree_then s.at.node s.at.below s.at.right))))) = cc in
       taken_of _ ∙ ap (option_map NameTaken) (sym taken_found)
 
   pub rename-taken : (before now after : Option (RecordMap NodeRecord)) (p : NodeRecord) (parent taken : ℕ) → ForSome before (λ m. fin.get m k ≡ Some r) → is_key r.kind ≡ true → r.parent ≡ Some parent
-      → ForSome before (λ m. fin.get m parent ≡ Some p) → now ≡ before → FindsKey k name p.first next now (Some (Some taken)) → AnswersEach (rename k name) next before after (Err (Refused (NameTaken taken)))
+      → ForSome before (λ m. fin.get m parent ≡ Some p) → now ≡ before → FindsKey (Some k) name p.first next now (Some (Some taken)) → AnswersEach (rename k name) next before after (Err (Refused (NameTaken taken)))
   unfolding AnswersEach
   rename-taken before now after p parent taken there key up there_p same finds state are paths =
       let s = seen k state next before r are there in
@@ -145,17 +145,17 @@ module _ (k : ℕ) (name : List ℕ) (next : ℕ) (r : NodeRecord) where
       ∙ (λ i. unless (wrong_kind (not (key i)) s.at.node ∷ is i ∷ paths_spent state new ∷ []) new)
 
   pub rename-cannot_find : (before now : Option (RecordMap NodeRecord)) (p : NodeRecord) (parent : ℕ) → ForSome before (λ m. fin.get m k ≡ Some r) → r.parent ≡ Some parent
-      → ForSome before (λ m. fin.get m parent ≡ Some p) → now ≡ before → FindsKey k name p.first next now None → IsNoState next before
+      → ForSome before (λ m. fin.get m parent ≡ Some p) → now ≡ before → FindsKey (Some k) name p.first next now None → IsNoState next before
   unfolding IsNoState
   rename-cannot_find before now p parent there up there_p same finds state are =
       let s = seen k state next before r are there in
       let few : size (plug s.at.around (beside s.at.left (tree_then s.at.node s.at.below s.at.right))) ≤ next = subst (λ t. size t ≤ next) s.at.stands are.few in
-      let finds_before : FindsKey k name p.first next before None = subst (λ o. FindsKey k name p.first next o None) same finds in
+      let finds_before : FindsKey (Some k) name p.first next before None = subst (λ o. FindsKey (Some k) name p.first next o None) same finds in
       let found = sought before p parent None s.at.around s.at.left s.at.node s.at.below s.at.right s.at.number s.row up there_p few finds_before s.shows in
       cc
 
   pub rename-done : (old read new : Moment) (p : NodeRecord) (parent : ℕ) → ForSome old.told (λ m. fin.get m k ≡ Some r) → is_key r.kind ≡ true → r.parent ≡ Some parent
-      → ForSome old.told (λ m. fin.get m parent ≡ Some p) → read.told ≡ old.told → (now : Option (RecordMap NodeRecord)) → now ≡ old.told → FindsKey k name p.first next now (Some None)
+      → ForSome old.told (λ m. fin.get m parent ≡ Some p) → read.told ≡ old.told → (now : Option (RecordMap NodeRecord)) → now ≡ old.told → FindsKey (Some k) name p.first next now (Some None)
       → IsRelabeled k Key name read new → AnswersEach (rename k name) next old.told new.told (Ok (record { first = None; next = next }))
   unfolding AnswersEach IsRelabeled
   rename-done old read new p parent there key up there_p same now now_is finds relabeled state are paths =

@@ -7,13 +7,9 @@ use Rattle.std.proofs.lemmas.Bool.{eqb-true}
 use Rattle.std.proofs.lemmas.Grind.{common_steps}
 use Rattle.sx_model.specs.Tree.{Node, Forest, no_trees, tree_then, beside, numbers, AreDistinctNumbers, spot_in, change_at}
 use Rattle.sx_model.specs.Holes.{Frame, plug}
+use Rattle.sx_edit.specs.Room.{nodes_of}
 use Rattle.sx_edit.proofs.Showing.{any-append}
 use Rattle.sx_edit.proofs.Standing.{beside_assoc}
-
--- the nodes of the frames
-abbrev pub nodes_of : List Frame → List Node
-nodes_of [] = []
-nodes_of (frame ∷ frames) = frame.node ∷ nodes_of frames
 
 -- The node stands in the last of these trees, which have these frames around them and these trees before them.
 pub record IsAt (k : ℕ) (frames : List Frame) (before here : Forest) : Type 0 where

@@ -14,7 +14,7 @@ use Rattle.sx_model.specs.State.{State}
 use Rattle.sx_model.specs.Tree.{Node, Forest, tree_then, beside, is_scalar, change_at, Spot, spot, size}
 use Rattle.sx_model.specs.Holes.{Frame, plug}
 use Rattle.sx_model.specs.Records.{NodeRow}
-use Rattle.sx_edit.proofs.Seeking.{nodes_of}
+use Rattle.sx_edit.specs.Room.{nodes_of}
 use Rattle.sx_edit.specs.declared.fault.EditFault.TheVariants.{Refused}
 use Rattle.sx_edit.specs.Told.{Shows, Moment}
 use Rattle.sx_edit.specs.Edited.{rows_in, IsRelabeled, CannotRelabel}

@@ -24,7 +24,7 @@ use Rattle.sx_edit.specs.Answers.{AnswersEach}
 use Rattle.sx_edit.proofs.Climbing.{some_is, holds-get}
 use Rattle.sx_edit.proofs.Standing.{new-whole, own_row, before_own, behind_own, rows-own}
 use Rattle.sx_edit.proofs.Relabeling.{deep-plug, size-beside}
-use Rattle.sx_edit.proofs.Seeking.{nodes_of}
+use Rattle.sx_edit.specs.Room.{nodes_of}
 use Rattle.sx_edit.proofs.Looking.{IsSeen}
 use Rattle.sx_edit.proofs.Answering.{IsNoState, paths-room}
 use Rattle.sx_edit.proofs.SettingScalars.{seen}
@@ -75,16 +75,32 @@ must_stay-below (frame ∷ frames) before n below behind r p parent o row shows 
 regrouped : (f b h l : List (ℕ × NodeRow)) → (f ++ b) ++ (h ++ l) ≡ f ++ ((b ++ h) ++ l)
 regrouped f b h l = simp append_assoc
 
--- a tree was taken out, and what stands around the gap was mended
-pub spliced-out : (frames : List Frame) (before : Forest) (n : Node) (below behind : Forest) (k next parent : ℕ) (r : NodeRecord) (gap : Gap) (tree : Tree) (o mid after : Option (RecordMap NodeRecord))
-    → n.number ≡ k → row_of r ≡ own_row local_hash no_path frames before n below behind → size (plug frames (beside before (tree_then n below behind))) ≤ next → next ≤ 2 ^ 30
-    → r.parent ≡ Some parent → gap.parent ≡ parent → gap.left ≡ r.left → gap.right ≡ r.right → tree.number ≡ k → tree.nodes ≡ r.descendants + 1 → tree.hash ≡ r.hash
-    → IsTakenOut k r.first next o mid → IsMended next gap (Some tree) None mid after
-    → Shows o (rows_in (plug frames (beside before (tree_then n below behind)))) → Shows after (rows_in (plug frames (beside before behind)))
-unfolding IsTakenOut IsMended
-spliced-out [] before n below behind k next parent r gap tree o mid after same row few fits up gap_parent gap_left gap_right number nodes hash taken mended shows =
-    absurd (let none : r.parent ≡ None = ap (λ (w : NodeRow). w.parent) row in cc)
-spliced-out (frame ∷ frames) before n below behind k next parent r gap tree o mid after same row few fits up gap_parent gap_left gap_right number nodes hash taken mended shows =
+-- the gap that a tree left
+pub record IsLeft (gap : Gap) (tree : Tree) (frames : List Frame) (frame : Frame) (before : Forest) (n : Node) (below behind : Forest) (mid : Option (RecordMap NodeRecord)) : Type 0 where
+  pub parent : frame.node.number ≡ gap.parent
+  pub left : last_of before ≡ gap.left
+  pub right : first_of behind ≡ gap.right
+  pub shown_is : shown local_hash (tree_then n below no_trees) ≡ shown_tree (Some tree)
+  pub shows : Shows mid (opened local_hash no_path frames frame before (tree_then n below no_trees) no_trees behind)
+
+-- what is known of a node with the record, of the gap that it leaves, and of its tree
+pub record IsCut (k next parent : ℕ) (r : NodeRecord) (gap : Gap) (tree : Tree) : Type 0 where
+  pub up : r.parent ≡ Some parent
+  pub gap_parent : gap.parent ≡ parent
+  pub gap_left : gap.left ≡ r.left
+  pub gap_right : gap.right ≡ r.right
+  pub number : tree.number ≡ k
+  pub nodes : tree.nodes ≡ r.descendants + 1
+  pub hash : tree.hash ≡ r.hash
+  pub fits : next ≤ 2 ^ 30
+
+-- a tree was taken out
+pub left-gap : (frames : List Frame) (frame : Frame) (before : Forest) (n : Node) (below behind : Forest) (k next parent : ℕ) (r : NodeRecord) (gap : Gap) (tree : Tree) (o mid : Option (RecordMap NodeRecord))
+    → n.number ≡ k → row_of r ≡ own_row local_hash no_path (frame ∷ frames) before n below behind → size (plug (frame ∷ frames) (beside before (tree_then n below behind))) ≤ next
+    → IsCut k next parent r gap tree → IsTakenOut k r.first next o mid
+    → Shows o (rows_in (plug (frame ∷ frames) (beside before (tree_then n below behind)))) → IsLeft gap tree frames frame before n below behind mid
+unfolding IsTakenOut
+left-gap frames frame before n below behind k next parent r gap tree o mid same row few cut taken shows =
     let inside : Forest = beside before (tree_then n below behind) in
     let a : Shown = shown local_hash inside in
     let own = subst (Shows o) (rows-plug local_hash no_path (frame ∷ frames) inside ∙ rows-own local_hash no_path (frame ∷ frames) a before n below behind) shows in
@@ -95,20 +111,33 @@ spliced-out (frame ∷ frames) before n below behind k next parent r gap tree o 
     ∷ (rows local_hash no_path (around_children (around_hole (frame ∷ frames)) n) below ++ behind_own local_hash no_path (frame ∷ frames) a n.number behind))) same own in
     let gone = taken local_hash no_path (around_children (around_hole (frame ∷ frames)) n) below (own_row local_hash no_path (frame ∷ frames) before n below behind)
     (before_own local_hash no_path (frame ∷ frames) a before n.number) (behind_own local_hash no_path (frame ∷ frames) a n.number behind) first refl (omega arith) own_k in
-    let in_gap : Shows mid (opened local_hash no_path frames frame before (tree_then n below no_trees) no_trees behind) =
-    subst (Shows mid) (regrouped (rows_before local_hash no_path (frame ∷ frames) a) _ _ (rows_behind local_hash no_path (frame ∷ frames) a)) gone in
     let above_is : r.parent ≡ Some frame.node.number = ap (λ (w : NodeRow). w.parent) row in
-    let parent_is : frame.node.number ≡ gap.parent = cc in
-    let left_is : last_of before ≡ gap.left = sym (gap_left ∙ ap (λ (w : NodeRow). w.left) row) in
-    let right_is : first_of behind ≡ gap.right = sym (gap_right ∙ ap (λ (w : NodeRow). w.right) row) in
-    let number_is : n.number ≡ tree.number = same ∙ sym number in
+    let up = cut.up in
+    let gap_parent = cut.gap_parent in
+    let number_is : n.number ≡ tree.number = same ∙ sym cut.number in
     let down : r.descendants ≡ size below = ap (λ (w : NodeRow). w.descendants) row in
-    let nodes_is : suc (size below) + 0 ≡ tree.nodes = omega arith in
+    let nodes_is : suc (size below) + 0 ≡ tree.nodes = omega (arith, cut.nodes) in
     let hash_at : r.hash ≡ (own_row local_hash no_path (frame ∷ frames) before n below behind).hash = ap (λ (w : NodeRow). w.hash) row in
-    let hash_is : (own_row local_hash no_path (frame ∷ frames) before n below behind).hash + 0 ≡ tree.hash = add-zero _ ∙ sym hash_at ∙ sym hash in
-    let shown_is : shown local_hash (tree_then n below no_trees) ≡ shown_tree (Some tree) =
-    λ i. record { first = Some (number_is i); last = Some (number_is i); trees = 1; nodes = nodes_is i; hashes = hash_is i } in
-    mended local_hash no_path frames frame before (tree_then n below no_trees) no_trees behind parent_is left_is right_is shown_is refl few (omega arith) in_gap
+    let hash_is : (own_row local_hash no_path (frame ∷ frames) before n below behind).hash + 0 ≡ tree.hash = add-zero _ ∙ sym hash_at ∙ sym cut.hash in
+    record {
+      parent = cc;
+      left = sym (cut.gap_left ∙ ap (λ (w : NodeRow). w.left) row);
+      right = sym (cut.gap_right ∙ ap (λ (w : NodeRow). w.right) row);
+      shown_is = λ i. record { first = Some (number_is i); last = Some (number_is i); trees = 1; nodes = nodes_is i; hashes = hash_is i };
+      shows = subst (Shows mid) (regrouped (rows_before local_hash no_path (frame ∷ frames) a) _ _ (rows_behind local_hash no_path (frame ∷ frames) a)) gone;
+    }
+
+-- a tree was taken out, and what stands around the gap was mended
+pub spliced-out : (frames : List Frame) (before : Forest) (n : Node) (below behind : Forest) (k next parent : ℕ) (r : NodeRecord) (gap : Gap) (tree : Tree) (o mid after : Option (RecordMap NodeRecord))
+    → n.number ≡ k → row_of r ≡ own_row local_hash no_path frames before n below behind → size (plug frames (beside before (tree_then n below behind))) ≤ next
+    → IsCut k next parent r gap tree → IsTakenOut k r.first next o mid → IsMended next gap (Some tree) None mid after
+    → Shows o (rows_in (plug frames (beside before (tree_then n below behind)))) → Shows after (rows_in (plug frames (beside before behind)))
+unfolding IsMended
+spliced-out [] before n below behind k next parent r gap tree o mid after same row few cut taken mended shows =
+    absurd (let none : r.parent ≡ None = ap (λ (w : NodeRow). w.parent) row in let up = cut.up in cc)
+spliced-out (frame ∷ frames) before n below behind k next parent r gap tree o mid after same row few cut taken mended shows =
+    let there = left-gap frames frame before n below behind k next parent r gap tree o mid same row few cut taken shows in
+    mended local_hash no_path frames frame before (tree_then n below no_trees) no_trees behind there.parent there.left there.right there.shown_is refl few (omega (arith, cut.fits)) there.shows
 
 module _ (k next : ℕ) (r : NodeRecord) where
   -- the edit of a state with the node, but for whether it must stay
@@ -139,12 +168,11 @@ module _ (k next : ℕ) (r : NodeRecord) where
       remove-stays before after state s (must_stay-below s.at.around s.at.left s.at.node s.at.below s.at.right r p parent before s.row s.shows up there_p ∙ key)
 
   pub remove-done : (before now mid after : Option (RecordMap NodeRecord)) (p : NodeRecord) (parent : ℕ) (gap : Gap) (tree : Tree) → ForSome before (λ m. fin.get m k ≡ Some r) → r.parent ≡ Some parent
-      → ForSome before (λ m. fin.get m parent ≡ Some p) → is_key p.kind ≡ false → now ≡ before → next ≤ 2 ^ 30
-      → gap.parent ≡ parent → gap.left ≡ r.left → gap.right ≡ r.right → tree.number ≡ k → tree.nodes ≡ r.descendants + 1 → tree.hash ≡ r.hash
-      → IsTakenOut k r.first next now mid → IsMended next gap (Some tree) None mid after
+      → ForSome before (λ m. fin.get m parent ≡ Some p) → is_key p.kind ≡ false → now ≡ before
+      → IsCut k next parent r gap tree → IsTakenOut k r.first next now mid → IsMended next gap (Some tree) None mid after
       → AnswersEach (remove k) next before after (Ok (record { first = None; next = next }))
   unfolding AnswersEach
-  remove-done before now mid after p parent gap tree there up there_p key same fits gap_parent gap_left gap_right number nodes hash taken mended state are paths =
+  remove-done before now mid after p parent gap tree there up there_p key same cut taken mended state are paths =
       let s = seen k state next before r are there in
       let goes = must_stay-below s.at.around s.at.left s.at.node s.at.below s.at.right r p parent before s.row s.shows up there_p ∙ key in
       let new_state : State = with_trees state 0 (change_at k (λ n below rest. rest) state.trees) in
@@ -152,20 +180,19 @@ module _ (k next : ℕ) (r : NodeRecord) where
       let room = paths-room _ _ new_state (λ q e. paths q (is_apply ∙ e)) in
       let few : size (plug s.at.around (beside s.at.left (tree_then s.at.node s.at.below s.at.right))) ≤ next = subst (λ t. size t ≤ next) s.at.stands are.few in
       let taken_before : IsTakenOut k r.first next before mid = rw same at taken in
-      let shows = spliced-out s.at.around s.at.left s.at.node s.at.below s.at.right k next parent r gap tree before mid after s.at.number s.row few fits up gap_parent gap_left gap_right number nodes hash taken_before mended s.shows in
+      let shows = spliced-out s.at.around s.at.left s.at.node s.at.below s.at.right k next parent r gap tree before mid after s.at.number s.row few cut taken_before mended s.shows in
       let number_is : next ≡ state.next + 0 = omega (arith, are.next_is) in
       (new_state, is_apply ∙ room, (λ i. record { first = None; next = number_is i }), (subst (λ t. Shows after (rows_in t)) (sym (s.at.changed (λ n below rest. rest))) shows).holds)
 
   -- a damage on the way
-  pub remove-cannot : (before now mid : Option (RecordMap NodeRecord)) (parent : ℕ) (gap : Gap) (tree : Tree) → ForSome before (λ m. fin.get m k ≡ Some r) → r.parent ≡ Some parent → now ≡ before → next ≤ 2 ^ 30
-      → gap.parent ≡ parent → gap.left ≡ r.left → gap.right ≡ r.right → tree.number ≡ k → tree.nodes ≡ r.descendants + 1 → tree.hash ≡ r.hash
-      → IsTakenOut k r.first next now mid → IsMended next gap (Some tree) None mid None → IsNoState next before
+  pub remove-cannot : (before now mid : Option (RecordMap NodeRecord)) (parent : ℕ) (gap : Gap) (tree : Tree) → ForSome before (λ m. fin.get m k ≡ Some r) → now ≡ before
+      → IsCut k next parent r gap tree → IsTakenOut k r.first next now mid → IsMended next gap (Some tree) None mid None → IsNoState next before
   unfolding IsNoState
-  remove-cannot before now mid parent gap tree there up same fits gap_parent gap_left gap_right number nodes hash taken mended state are =
+  remove-cannot before now mid parent gap tree there same cut taken mended state are =
       let s = seen k state next before r are there in
       let few : size (plug s.at.around (beside s.at.left (tree_then s.at.node s.at.below s.at.right))) ≤ next = subst (λ t. size t ≤ next) s.at.stands are.few in
       let taken_before : IsTakenOut k r.first next before mid = rw same at taken in
-      (spliced-out s.at.around s.at.left s.at.node s.at.below s.at.right k next parent r gap tree before mid None s.at.number s.row few fits up gap_parent gap_left gap_right number nodes hash taken_before mended s.shows).holds
+      (spliced-out s.at.around s.at.left s.at.node s.at.below s.at.right k next parent r gap tree before mid None s.at.number s.row few cut taken_before mended s.shows).holds
 
   -- a node's parent is there, and its nodes can be counted
   pub parented : (before : Option (RecordMap NodeRecord)) (parent : ℕ) → ForSome before (λ m. fin.get m k ≡ Some r) → r.parent ≡ Some parent → ForSome before (λ m. fin.get m parent ≡ None) → IsNoState next before

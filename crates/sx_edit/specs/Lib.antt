@@ -3,8 +3,12 @@ pub mod Clear
 pub mod Damage
 pub mod EditFault
 pub mod Edited
+pub mod Fill
+pub mod Grow
 pub mod Holes
 pub mod Mend
 pub mod Names
+pub mod Places
+pub mod Room
 pub mod Told
 pub mod Steps

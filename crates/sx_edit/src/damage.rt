@@ -2,7 +2,9 @@
 ghost use Rattle.std.specs.Prelude.{◌≡◌, ◌^◌, ◌<◌, ℕ};
 ghost use Rattle.sx_edit.specs.Damage.{IsBreach};
 
+use crate::kinds::kind_byte;
 use sx_bytes::{Damage, number_damage};
+use sx_tree::record::Kind;
 
 /// A link leads to a node that has no record.
 pub const BROKEN_LINK: u8 = 23;
@@ -35,9 +37,9 @@ pub(crate) fn misplaced(node: u32, value: u64) -> Damage
     number_damage(0, MISPLACED, u64::from(node), value)
 }
 
-/// The key stands where no key can.
-pub(crate) fn misplaced_key(node: u32) -> Damage
+/// A node of this kind stands where none can.
+pub(crate) fn misplaced_kind(node: u32, kind: Kind) -> Damage
     ensures { (next : ℕ) → IsBreach next result }
 {
-    misplaced(node, 3)
+    misplaced(node, u64::from(kind_byte(kind)))
 }

@@ -1,17 +1,23 @@
 //! Edits, whole or not at all.
-ghost use Rattle.std.specs.Prelude.{◌≡◌, ◌≤◌, ◌^◌, IfErr, IsFalse, IsTrue, OnErr, OnOk};
+ghost use Rattle.std.specs.Prelude.{◌≡◌, ◌≤◌, ◌^◌, ℕ, IfErr, IsFalse, IsTrue, OnErr, OnOk};
 ghost use Rattle.sx_outside.specs.Faults.{Rose};
-ghost use Rattle.sx_model.specs.Edit as model;
+ghost use Rattle.sx_tree.specs.declared.edit.Edit.TheVariants as edits;
+ghost use Rattle.sx_tree.specs.declared.json.Scalar.{Scalar};
+ghost use Rattle.sx_model.specs.Edit.{edit_of};
 ghost use Rattle.sx_edit.specs.Answers.{AnswersEach, GetsFew};
 ghost use Rattle.sx_edit.specs.EditFault.{ExplainsEdit};
+ghost use Rattle.sx_edit.specs.Steps.{GoesOn};
 
 use crate::fault::EditFault;
-use crate::{removal, renaming, scalars};
+use crate::insertion::insert;
+use crate::loading::load;
+use crate::removal::remove;
+use crate::renaming::rename;
+use crate::replacement::replace;
+use crate::scalars::set_scalar;
 use std::alloc::Global;
-use sx_tree::edit::Edited;
-use sx_tree::json::Scalar;
+use sx_tree::edit::{Edit, Edited};
 use sx_tree::record::NodeRecord;
-use sx_tree::text::Text;
 use sx_view::RecordsMut;
 
 /// Keeps what an edit did since the mark where it is done, and else restores the records at the mark.
@@ -39,75 +45,64 @@ fn settle<N: RecordsMut<NodeRecord>>(
     }
 }
 
-/// The scalar node keeps its number and has this scalar. `next` is the number that the next new node takes, at most
-/// 1,073,741,824.
-///
-/// # Errors
-///
-/// `NoNode` where there is no such node, then `WrongKind` where it is no scalar. After each error the records are as they were,
-/// without a mark.
-pub fn set_scalar<N: RecordsMut<NodeRecord>>(
+/// Does the edit. On a fault the records may be half changed.
+fn change<N: RecordsMut<NodeRecord>>(
     alloc: Global,
     nodes: &mut N,
-    node: u32,
-    value: &Scalar,
+    edit: &Edit,
     next: u32,
 ) -> Result<Edited, EditFault>
     requires { next ≤ 2 ^ 30 }
-    ensures answers { AnswersEach (model.set_scalar node value.now) next (N.told nodes.old) (N.told nodes.new) result }
-    ensures gets { OnOk result (GetsFew node next (N.told nodes.old) (N.gets nodes.old) (N.gets nodes.new)) }
-    ensures unchanged { OnErr result (N.same nodes.old nodes.new) }
-    ensures no_mark { IsFalse (N.has_mark nodes.new) }
+    ensures answers { AnswersEach (edit_of edit.now) next (N.told nodes.old) (N.told nodes.new) result }
+    ensures gets { (node : ℕ) → (value : Scalar) → edit.now ≡ edits.SetScalar node value
+        → OnOk result (GetsFew node next (N.told nodes.old) (N.gets nodes.old) (N.gets nodes.new)) }
+    ensures goes_on { GoesOn N.told N.faults N.has_mark N.marks nodes.old nodes.new }
     ensures fault { IfErr result (ExplainsEdit next (N.told nodes.old) (Rose (N.faults nodes.old) (N.faults nodes.new))) }
 {
-    nodes.begin();
-    let outcome = scalars::set_scalar(alloc, nodes, next, node, value);
-    settle(nodes, outcome)
+    match edit {
+        Edit::Load { value } => load(alloc, nodes, next, value),
+        Edit::Insert { place, name, value } => insert(
+            alloc,
+            nodes,
+            next,
+            *place,
+            name.as_ref(),
+            value,
+        ),
+        Edit::SetScalar { node, value } => set_scalar(alloc, nodes, next, *node, value),
+        Edit::Replace { node, value } => replace(alloc, nodes, next, *node, value),
+        Edit::Rename { node, name } => rename(alloc, nodes, next, *node, name),
+        Edit::Remove { node } => remove(alloc, nodes, next, *node),
+    }
 }
 
-/// The node goes with all below it. `next` is the number that the next new node takes, at most 1,073,741,824.
+/// Changes the document of which these are the records, as the edit asks. `next` is the number that the next new node takes, at
+/// most 1,073,741,824. Path numbers are 0.
 ///
 /// # Errors
 ///
-/// `NoNode` where there is no such node, then `WrongKind` where it is the document or the value of a key. After each error the
-/// records are as they were, without a mark.
-pub fn remove<N: RecordsMut<NodeRecord>>(
+/// `Refused` by the first of these that stands: `NoNode` where the node that the edit names is not there; `WrongKind` where the edit
+/// is not for a node of its kind, or of its place; `NameTaken` where another key of the object has the name; `DocumentFull` where the
+/// document has a child beside which another one would come; `TooDeep` where more than 256 arrays and objects would nest;
+/// `NumbersSpent` where new nodes need numbers of 1,073,741,824 and above; `NameMissing` for a member of an object without a name;
+/// `NameUnasked` for a name anywhere else. `Failed` only where the faults of the object below rose; `Damaged` only where the records are
+/// those of no document; `OutOfMemory`. After each error the records are as they were, without a mark.
+pub fn apply<N: RecordsMut<NodeRecord>>(
     alloc: Global,
     nodes: &mut N,
-    node: u32,
+    edit: &Edit,
     next: u32,
 ) -> Result<Edited, EditFault>
     requires { next ≤ 2 ^ 30 }
-    ensures answers { AnswersEach (model.remove node) next (N.told nodes.old) (N.told nodes.new) result }
+    ensures answers { AnswersEach (edit_of edit.now) next (N.told nodes.old) (N.told nodes.new) result }
+    // A scalar that is set is got once, and each node above it.
+    ensures gets { (node : ℕ) → (value : Scalar) → edit.now ≡ edits.SetScalar node value
+        → OnOk result (GetsFew node next (N.told nodes.old) (N.gets nodes.old) (N.gets nodes.new)) }
     ensures unchanged { OnErr result (N.same nodes.old nodes.new) }
     ensures no_mark { IsFalse (N.has_mark nodes.new) }
     ensures fault { IfErr result (ExplainsEdit next (N.told nodes.old) (Rose (N.faults nodes.old) (N.faults nodes.new))) }
 {
     nodes.begin();
-    let outcome = removal::remove(alloc, nodes, next, node);
-    settle(nodes, outcome)
-}
-
-/// The key has this name. `next` is the number that the next new node takes, at most 1,073,741,824.
-///
-/// # Errors
-///
-/// `NoNode` where there is no such node, then `WrongKind` where it is no key, then `NameTaken` where another key of the object has
-/// the name. After each error the records are as they were, without a mark.
-pub fn rename<N: RecordsMut<NodeRecord>>(
-    alloc: Global,
-    nodes: &mut N,
-    node: u32,
-    name: &Text,
-    next: u32,
-) -> Result<Edited, EditFault>
-    requires { next ≤ 2 ^ 30 }
-    ensures answers { AnswersEach (model.rename node name.now) next (N.told nodes.old) (N.told nodes.new) result }
-    ensures unchanged { OnErr result (N.same nodes.old nodes.new) }
-    ensures no_mark { IsFalse (N.has_mark nodes.new) }
-    ensures fault { IfErr result (ExplainsEdit next (N.told nodes.old) (Rose (N.faults nodes.old) (N.faults nodes.new))) }
-{
-    nodes.begin();
-    let outcome = renaming::rename(alloc, nodes, next, node, name);
+    let outcome = change(alloc, nodes, edit, next);
     settle(nodes, outcome)
 }

@@ -1,21 +1,30 @@
 //! Edits of a document over its records, in place.
 #![tactic(auto)]
 
+mod children;
 mod clear;
 mod damage;
 mod edits;
 mod fault;
+mod fill;
+mod grow;
+mod insertion;
 mod kinds;
 mod label;
+mod levels;
 mod lift;
+mod loading;
 mod mend;
 mod names;
+mod places;
 mod reads;
 mod relabel;
 mod removal;
 mod renaming;
+mod replacement;
+mod room;
 mod scalars;
 mod trees;
 
-pub use edits::{remove, rename, set_scalar};
+pub use edits::apply;
 pub use fault::EditFault;

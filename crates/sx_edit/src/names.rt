@@ -13,14 +13,14 @@ use sx_tree::record::NodeRecord;
 use sx_tree::text::Text;
 use sx_view::{Fault, RecordsMut};
 
-/// Whether the node with this record is a key of the name, and not the one that is left out.
-fn is_named(entry: &NodeRecord, node: u32, name: &Text, except: u32) -> bool
+/// Whether the node with this record is a key of the name, and not one that is left out.
+fn is_named(entry: &NodeRecord, node: u32, name: &Text, except: Option<u32>) -> bool
     ensures { result ≡ is_sought except name.now node entry.now.kind entry.now.label }
 {
-    node != except && is_key(entry.kind) && entry.label.as_bytes() == name.as_bytes()
+    except != Some(node) && is_key(entry.kind) && entry.label.as_bytes() == name.as_bytes()
 }
 
-/// The first key of the name among the children of the parent, from this one on to the right, but for one that is left out.
+/// The first key of the name among the children of the parent, from this one on to the right, but for one that may be left out.
 pub(crate) fn find_key<N: RecordsMut<NodeRecord>>(
     alloc: Global,
     nodes: &mut N,
@@ -28,7 +28,7 @@ pub(crate) fn find_key<N: RecordsMut<NodeRecord>>(
     parent: u32,
     first: Option<u32>,
     name: &Text,
-    except: u32,
+    except: Option<u32>,
 ) -> Result<Option<u32>, Fault>
     ensures found { IfOk result (λ found. FindsKey except name.now first next (N.told nodes.old) (Some found)) }
     ensures cannot { IfErr result (λ fault. IsDamaged fault → FindsKey except name.now first next (N.told nodes.old) None) }

@@ -1,14 +1,16 @@
 //! Records that are read, written and taken away.
-ghost use Rattle.std.specs.Prelude.{◌≡◌, ◌+◌, ◌≤◌, ℕ, None, Some, IfErr, IfOk, OnOk, option_map};
+ghost use Rattle.std.specs.Prelude.{◌≡◌, ◌+◌, ◌≤◌, ℕ, [], ◌∷◌, None, Some, IfErr, IfOk, OnOk, option_map};
 ghost use Rattle.std.specs.Option.{ForSome};
 ghost use Rattle.std.specs.FinMap as map;
 ghost use Rattle.sx_outside.specs.Faults.{Rose};
-ghost use Rattle.sx_edit.specs.Damage.{Explains, IsDamaged};
+ghost use Rattle.sx_edit.specs.Damage.{Explains, IsBreachFault, IsDamaged};
+ghost use Rattle.sx_view.specs.Rows.{row_of};
+ghost use Rattle.sx_edit.specs.Grow.{IsAdded};
 ghost use Rattle.sx_edit.specs.Steps.{GoesOn};
 ghost use Rattle.sx_view.specs.declared.fault.Fault.TheVariants.{OutOfMemory};
 
-use crate::damage::broken_link;
-use std::alloc::Global;
+use crate::damage::{broken_link, misplaced_kind};
+use std::alloc::{AllocError, Global};
 use sx_tree::record::NodeRecord;
 use sx_view::{Fault, RecordsMut};
 
@@ -79,4 +81,29 @@ pub(crate) fn erase<N: RecordsMut<NodeRecord>>(
 {
     nodes.drop_record(alloc, node)?;
     Ok(())
+}
+
+/// Gives a new node the record.
+pub(crate) fn add<N: RecordsMut<NodeRecord>>(
+    alloc: Global,
+    nodes: &mut N,
+    node: u32,
+    entry: NodeRecord,
+) -> Result<(), AllocError>
+    ensures added { OnOk result (IsAdded ((node, row_of entry) ∷ []) (N.told nodes.old) (N.told nodes.new)) }
+    ensures goes_on { GoesOn N.told N.faults N.has_mark N.marks nodes.old nodes.new }
+{
+    nodes.put(alloc, node, entry)
+}
+
+/// The node above a node, by the record of this one, which is not the document's.
+pub(crate) fn parent_of(node: u32, entry: &NodeRecord) -> Result<u32, Fault>
+    ensures parent { IfOk result (λ parent. entry.now.parent ≡ Some parent) }
+    ensures none { IfErr result (λ fault. entry.now.parent ≡ None) }
+    ensures fault { (next : ℕ) → IfErr result (IsBreachFault next) }
+{
+    match entry.parent {
+        Some(parent) => Ok(parent),
+        None => Err(Fault::Damaged(misplaced_kind(node, entry.kind))),
+    }
 }

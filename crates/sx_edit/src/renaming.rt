@@ -1,36 +1,22 @@
 //! Another name of a key.
-ghost use Rattle.std.specs.Prelude.{◌≡◌, ℕ, None, Some, IfErr, IfOk};
+ghost use Rattle.std.specs.Prelude.{IfErr};
 ghost use Rattle.sx_outside.specs.Faults.{Rose};
 ghost use Rattle.sx_model.specs.Edit as model;
 ghost use Rattle.sx_edit.specs.Answers.{AnswersEach};
 ghost use Rattle.sx_edit.specs.EditFault.{ExplainsEdit};
-ghost use Rattle.sx_edit.specs.Damage.{IsBreachFault};
 ghost use Rattle.sx_edit.specs.Steps.{GoesOn};
 
-use crate::damage::misplaced_key;
 use crate::fault::EditFault;
 use crate::kinds::is_key;
 use crate::label::Label;
 use crate::names::find_key;
-use crate::reads::{read, read_linked};
+use crate::reads::{parent_of, read, read_linked};
 use crate::relabel::relabel;
 use std::alloc::Global;
 use sx_tree::edit::{EditRefusal, Edited};
 use sx_tree::record::{Kind, NodeRecord};
 use sx_tree::text::Text;
-use sx_view::{Fault, RecordsMut};
-
-/// The node above a key, by the key's record.
-fn object_of(node: u32, entry: &NodeRecord) -> Result<u32, Fault>
-    ensures parent { IfOk result (λ parent. entry.now.parent ≡ Some parent) }
-    ensures none { IfErr result (λ fault. entry.now.parent ≡ None) }
-    ensures fault { (next : ℕ) → IfErr result (IsBreachFault next) }
-{
-    match entry.parent {
-        Some(parent) => Ok(parent),
-        None => Err(Fault::Damaged(misplaced_key(node))),
-    }
-}
+use sx_view::RecordsMut;
 
 /// The key has this name. On a fault the records may be half changed.
 pub(crate) fn rename<N: RecordsMut<NodeRecord>>(
@@ -53,9 +39,9 @@ pub(crate) fn rename<N: RecordsMut<NodeRecord>>(
             kind: entry.kind,
         }));
     }
-    let parent = object_of(node, &entry)?;
+    let parent = parent_of(node, &entry)?;
     let above = read_linked(alloc, nodes, node, parent)?;
-    if let Some(taken) = find_key(alloc, nodes, next, parent, above.first, name, node)? {
+    if let Some(taken) = find_key(alloc, nodes, next, parent, above.first, name, Some(node))? {
         return Err(EditFault::Refused(EditRefusal::NameTaken { node: taken }));
     }
     let text = name.copy(alloc)?;

@@ -2,6 +2,8 @@
 ghost use Rattle.std.specs.Prelude.{◌<◌, ◌^◌};
 ghost use Rattle.sx_tree.specs.Record.{IsLink};
 
+use sx_tree::record::Kind;
+
 /// A tree.
 #[derive(Clone, Copy)]
 pub(crate) struct Tree {
@@ -22,4 +24,31 @@ pub(crate) struct Gap {
     pub(crate) right: Option<u32>,
     ghost left_fits: { IsLink left },
     ghost right_fits: { IsLink right },
+}
+
+/// What a node keeps of its children.
+#[derive(Clone, Copy)]
+pub(crate) struct Children {
+    pub(crate) first: Option<u32>,
+    pub(crate) last: Option<u32>,
+    /// How many there are.
+    pub(crate) count: u32,
+    /// How many nodes they are, with all below them.
+    pub(crate) nodes: u32,
+    /// The sum of their hashes, modulo 2^128.
+    pub(crate) hash: u128,
+    ghost first_fits: { IsLink first },
+    ghost last_fits: { IsLink last },
+    ghost hash_fits: { hash < 2 ^ 128 },
+}
+
+/// Where a new value comes.
+#[derive(Clone, Copy)]
+pub(crate) struct Target {
+    pub(crate) gap: Gap,
+    /// The kind of the node above.
+    pub(crate) kind: Kind,
+    /// The first child of the node above.
+    pub(crate) first: Option<u32>,
+    ghost first_fits: { IsLink first },
 }

@@ -50,18 +50,17 @@ pub returns-in_err-take_out-clause-answers : goal.returns-in_err-take_out-clause
 returns-in_err-take_out-clause-answers g c =
     err-answers _ _ _ _ c.from_residual-in_err-take_out.result _ c.from_residual-in_err-take_out.ensures.1
     (λ damaged. remove-cannot _ _ c.in-Some.entry _ _ None _ (record { parent = c.in-Some-parent.parent; left = c.in-Some.entry.left; right = c.in-Some.entry.right; left_fits = c.in-Some.entry.left_fits; right_fits = c.in-Some.entry.right_fits })
-    c.in_ok-tree.tree (λ m e. sym (c.in_ok-entry.ensures.found m e) ∙ c.in-Some.is) c.in-Some-parent.is (c.in_ok-above.ensures.same ∙ c.in_ok-entry.ensures.same) c.requires
-    refl refl refl c.in_ok-tree.ensures.tree.0 c.in_ok-tree.ensures.tree.1 c.in_ok-tree.ensures.tree.2 (c.in_err-take_out.ensures.cannot damaged) (mended-untold _ _ _ _))
+    c.in_ok-tree.tree (λ m e. sym (c.in_ok-entry.ensures.found m e) ∙ c.in-Some.is) (c.in_ok-above.ensures.same ∙ c.in_ok-entry.ensures.same)
+    (record { up = c.in-Some-parent.is; gap_parent = refl; gap_left = refl; gap_right = refl; number = c.in_ok-tree.ensures.tree.0; nodes = c.in_ok-tree.ensures.tree.1; hash = c.in_ok-tree.ensures.tree.2; fits = c.requires }) (c.in_err-take_out.ensures.cannot damaged) (mended-untold _ _ _ _))
 
 pub returns-in_err-mend-clause-answers : goal.returns-in_err-mend-clause-answers
 returns-in_err-mend-clause-answers g c =
     err-answers _ _ _ _ c.from_residual-in_err-mend.result _ c.from_residual-in_err-mend.ensures.1
-    (λ damaged. remove-cannot _ _ c.in-Some.entry _ _ _ _ _ c.in_ok-tree.tree (λ m e. sym (c.in_ok-entry.ensures.found m e) ∙ c.in-Some.is) c.in-Some-parent.is
-    (c.in_ok-above.ensures.same ∙ c.in_ok-entry.ensures.same) c.requires
-    refl refl refl c.in_ok-tree.ensures.tree.0 c.in_ok-tree.ensures.tree.1 c.in_ok-tree.ensures.tree.2 c.in_ok-take_out.ensures.done (c.in_err-mend.ensures.cannot damaged))
+    (λ damaged. remove-cannot _ _ c.in-Some.entry _ _ _ _ _ c.in_ok-tree.tree (λ m e. sym (c.in_ok-entry.ensures.found m e) ∙ c.in-Some.is) (c.in_ok-above.ensures.same ∙ c.in_ok-entry.ensures.same)
+    (record { up = c.in-Some-parent.is; gap_parent = refl; gap_left = refl; gap_right = refl; number = c.in_ok-tree.ensures.tree.0; nodes = c.in_ok-tree.ensures.tree.1; hash = c.in_ok-tree.ensures.tree.2; fits = c.requires }) c.in_ok-take_out.ensures.done (c.in_err-mend.ensures.cannot damaged))
 
 pub returns-clause-answers : goal.returns-clause-answers
 returns-clause-answers g c =
     remove-done _ _ c.in-Some.entry _ _ _ _ c.in_ok-above.above _ _ c.in_ok-tree.tree (λ m e. sym (c.in_ok-entry.ensures.found m e) ∙ c.in-Some.is) c.in-Some-parent.is
-    (moved-there _ _ _ _ c.in_ok-entry.ensures.same c.in_ok-above.ensures.found) (cc) (c.in_ok-above.ensures.same ∙ c.in_ok-entry.ensures.same) c.requires
-    refl refl refl c.in_ok-tree.ensures.tree.0 c.in_ok-tree.ensures.tree.1 c.in_ok-tree.ensures.tree.2 c.in_ok-take_out.ensures.done c.in_ok-mend.ensures.done
+    (moved-there _ _ _ _ c.in_ok-entry.ensures.same c.in_ok-above.ensures.found) (cc) (c.in_ok-above.ensures.same ∙ c.in_ok-entry.ensures.same)
+    (record { up = c.in-Some-parent.is; gap_parent = refl; gap_left = refl; gap_right = refl; number = c.in_ok-tree.ensures.tree.0; nodes = c.in_ok-tree.ensures.tree.1; hash = c.in_ok-tree.ensures.tree.2; fits = c.requires }) c.in_ok-take_out.ensures.done c.in_ok-mend.ensures.done

@@ -1,8 +1,0 @@
-use Rattle.sx_edit.proofs.Results.{on_ok-then}
-use Rattle.sx_edit.proofs.Answering.{settled-answers}
-use Rattle.sx_edit.proofs.edits.rename.Goals as goal
-
-pub returns-clause-answers : goal.returns-clause-answers
-returns-clause-answers g c =
-    settled-answers _ _ _ _ _ _ c.settle.result c.rename-outcome.result (g.met.N.RecordsMut.same_told _ _ c.begin.ensures.same) c.settle.ensures.same
-    (on_ok-then c.settle.result _ _ (g.met.N.RecordsMut.same_told _ _) c.settle.ensures.kept) c.rename-outcome.ensures.answers

@@ -1,0 +1,26 @@
+use Rattle.std.proofs.Common.{◌+◌, suc, length, nat_lt, take}
+use Rattle.sx_tree.specs.Value.{values_of, fields_of}
+use Rattle.sx_model.specs.Numbered.{numbered_values, numbered_fields}
+use Rattle.sx_edit.specs.Grow.{only_if}
+use Rattle.sx_edit.specs.Steps.{GoesOn}
+use Rattle.sx_edit.proofs.Growing.{IsHung}
+use Rattle.sx_edit.proofs.grow.+grow.Given as goal
+
+-- the trees of the values so far are there
+abbrev pub invariant-grow_items-loop-place : goal.invariant-grow_items-loop-place
+invariant-grow_items-loop-place g l =
+    let told = g.N.Records.told in
+    record {
+      hung : IsHung l.parent (only_if (nat_lt l.place (length l.values)) (l.parent + 1 + l.children.nodes)) l.children
+          (numbered_values (values_of (take l.place l.values)) (suc l.parent)) (told l.initial.nodes) (told l.nodes);
+      goes_on : GoesOn told g.N.Records.faults g.N.RecordsMut.has_mark g.N.RecordsMut.marks l.initial.nodes l.nodes;
+    }
+
+abbrev pub invariant-grow_members-loop-place : goal.invariant-grow_members-loop-place
+invariant-grow_members-loop-place g l =
+    let told = g.N.Records.told in
+    record {
+      hung : IsHung l.parent (only_if (nat_lt l.place (length l.members)) (l.parent + 1 + l.children.nodes)) l.children
+          (numbered_fields (fields_of (take l.place l.members)) (suc l.parent)) (told l.initial.nodes) (told l.nodes);
+      goes_on : GoesOn told g.N.Records.faults g.N.RecordsMut.has_mark g.N.RecordsMut.marks l.initial.nodes l.nodes;
+    }

@@ -1,0 +1,22 @@
+use Rattle.sx_tree.specs.Value.{value_of}
+use Rattle.sx_edit.proofs.Going.{goes_itself}
+use Rattle.sx_edit.proofs.Answering.{err-answers, err-explains_edit, untold-no_state}
+use Rattle.sx_edit.proofs.LoadingOver.{load-inserts, load-replaces}
+use Rattle.sx_edit.proofs.loading.load.Goals as goal
+
+pub returns-in_err-child-clause-answers : goal.returns-in_err-child-clause-answers
+returns-in_err-child-clause-answers g c =
+    err-answers _ _ _ _ c.from_residual.result _ c.from_residual.ensures.1 (λ damaged. untold-no_state _ _ (c.in_err-child.ensures.untold damaged))
+
+pub returns-in_err-child-clause-fault : goal.returns-in_err-child-clause-fault
+returns-in_err-child-clause-fault g c =
+    err-explains_edit g.N.Records.told g.N.Records.faults g.N.RecordsMut.has_mark g.N.RecordsMut.marks c.args.next c.args.nodes.now c.args.nodes.now _ c.from_residual.result _ c.from_residual.ensures.1
+    (goes_itself g.N.Records.told g.N.Records.faults g.N.RecordsMut.has_mark g.N.RecordsMut.marks c.args.nodes.now) (c.in_err-child.ensures.fault c.args.next)
+
+pub returns-in-Some-clause-answers : goal.returns-in-Some-clause-answers
+returns-in-Some-clause-answers g c =
+    load-replaces (value_of c.args.value.now) _ _ _ c.in_ok-child.ensures.child _ _ _ c.replace.result c.in_ok-child.ensures.same c.in-Some.is c.replace.ensures.answers
+
+pub returns-in-None-clause-answers : goal.returns-in-None-clause-answers
+returns-in-None-clause-answers g c =
+    load-inserts (value_of c.args.value.now) _ _ _ c.in_ok-child.ensures.child _ _ c.insert.result c.in_ok-child.ensures.same c.in-None.is c.insert.ensures.answers

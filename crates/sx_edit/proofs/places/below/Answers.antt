@@ -1,0 +1,27 @@
+use Rattle.std.proofs.Common.{◌∙◌, sym, refl, arith}
+use Rattle.sx_edit.proofs.Answering.{err-explains_edit, untold-no_state}
+use Rattle.sx_edit.proofs.Going.{goes_itself}
+use Rattle.sx_edit.proofs.Placing.{below-absent, below-beyond, below-place, below-wrong, fault-no_place}
+use Rattle.sx_edit.proofs.places.below.Goals as goal
+
+pub returns-then-node-next-clause-none : goal.returns-then-node-next-clause-none
+returns-then-node-next-clause-none g c = below-beyond _ _ _ _ (omega arith)
+
+pub returns-in_err-entry-clause-none : goal.returns-in_err-entry-clause-none
+returns-in_err-entry-clause-none g c = fault-no_place _ _ _ _ c.from_residual.result c.from_residual.ensures.1 (λ damaged. untold-no_state _ _ (c.in_err-entry.ensures.untold damaged))
+
+pub returns-in_err-entry-clause-fault : goal.returns-in_err-entry-clause-fault
+returns-in_err-entry-clause-fault g c =
+    err-explains_edit g.N.Records.told g.N.Records.faults g.N.RecordsMut.has_mark g.N.RecordsMut.marks c.args.next c.args.nodes.now c.args.nodes.now _ c.from_residual.result _ c.from_residual.ensures.1
+    (goes_itself g.N.Records.told g.N.Records.faults g.N.RecordsMut.has_mark g.N.RecordsMut.marks c.args.nodes.now) (c.in_err-entry.ensures.fault c.args.next)
+
+pub returns-in_default-clause-none : goal.returns-in_default-clause-none
+returns-in_default-clause-none g c = below-absent _ _ _ _ _ c.in_ok-entry.ensures.found c.in_default.is
+
+pub returns-then-has_no_places-clause-none : goal.returns-then-has_no_places-clause-none
+returns-then-has_no_places-clause-none g c = below-wrong _ _ c.in-Some.entry _ (λ m e. sym (c.in_ok-entry.ensures.found m e) ∙ c.in-Some.is) _ (cc)
+
+pub returns-clause-place : goal.returns-clause-place
+returns-clause-place g c =
+    below-place _ _ c.in-Some.entry _ (λ m e. sym (c.in_ok-entry.ensures.found m e) ∙ c.in-Some.is) _ _ (cc)
+    (record { parent = c.gap_below.ensures.parent; left = c.gap_below.ensures.left; right = c.gap_below.ensures.right; kind = refl; first = refl })

@@ -1,0 +1,45 @@
+use Rattle.std.proofs.Common.{◌∙◌, sym, refl, arith}
+use Rattle.sx_edit.proofs.Answering.{err-explains_edit, untold-no_state}
+use Rattle.sx_edit.proofs.Going.{goes_itself}
+use Rattle.sx_edit.proofs.Splicing.{moved-there, parented}
+use Rattle.sx_edit.proofs.Placing.{beside-absent, beside-beyond, beside-place, beside-top, beside-value, fault-no_place}
+use Rattle.sx_edit.proofs.places.beside.Goals as goal
+
+pub returns-then-node-next-clause-none : goal.returns-then-node-next-clause-none
+returns-then-node-next-clause-none g c = beside-beyond _ _ _ _ (omega arith)
+
+pub returns-in_err-entry-clause-none : goal.returns-in_err-entry-clause-none
+returns-in_err-entry-clause-none g c = fault-no_place _ _ _ _ c.from_residual.result c.from_residual.ensures.1 (λ damaged. untold-no_state _ _ (c.in_err-entry.ensures.untold damaged))
+
+pub returns-in_err-entry-clause-fault : goal.returns-in_err-entry-clause-fault
+returns-in_err-entry-clause-fault g c =
+    err-explains_edit g.N.Records.told g.N.Records.faults g.N.RecordsMut.has_mark g.N.RecordsMut.marks c.args.next c.args.nodes.now c.args.nodes.now _ c.from_residual.result _ c.from_residual.ensures.1
+    (goes_itself g.N.Records.told g.N.Records.faults g.N.RecordsMut.has_mark g.N.RecordsMut.marks c.args.nodes.now) (c.in_err-entry.ensures.fault c.args.next)
+
+pub returns-in_default-clause-none : goal.returns-in_default-clause-none
+returns-in_default-clause-none g c = beside-absent _ _ _ _ _ c.in_ok-entry.ensures.found c.in_default.is
+
+pub returns-in_default-parent-clause-none : goal.returns-in_default-parent-clause-none
+returns-in_default-parent-clause-none g c = beside-top _ _ c.in-Some.entry _ (λ m e. sym (c.in_ok-entry.ensures.found m e) ∙ c.in-Some.is) _ c.in_default-parent.is
+
+pub returns-in_err-above-clause-none : goal.returns-in_err-above-clause-none
+returns-in_err-above-clause-none g c =
+    fault-no_place _ _ _ _ c.from_residual-in_err-above.result c.from_residual-in_err-above.ensures.1
+    (λ damaged. parented _ _ c.in-Some.entry _ _ (λ m e. sym (c.in_ok-entry.ensures.found m e) ∙ c.in-Some.is) c.in-Some-parent.is
+    (moved-there _ _ _ _ c.in_ok-entry.ensures.same (c.in_err-above.ensures.absent damaged)))
+
+pub returns-in_err-above-clause-fault : goal.returns-in_err-above-clause-fault
+returns-in_err-above-clause-fault g c =
+    err-explains_edit g.N.Records.told g.N.Records.faults g.N.RecordsMut.has_mark g.N.RecordsMut.marks c.args.next c.args.nodes.now _ _ c.from_residual-in_err-above.result _ c.from_residual-in_err-above.ensures.1
+    c.in_ok-entry.ensures.goes_on (c.in_err-above.ensures.fault c.args.next)
+
+pub returns-then-is_key-clause-none : goal.returns-then-is_key-clause-none
+returns-then-is_key-clause-none g c =
+    beside-value _ _ c.in-Some.entry _ (λ m e. sym (c.in_ok-entry.ensures.found m e) ∙ c.in-Some.is) _ c.in_ok-above.above _ c.in-Some-parent.is
+    (moved-there _ _ _ _ c.in_ok-entry.ensures.same c.in_ok-above.ensures.found) (cc)
+
+pub returns-clause-place : goal.returns-clause-place
+returns-clause-place g c =
+    beside-place _ _ c.in-Some.entry _ (λ m e. sym (c.in_ok-entry.ensures.found m e) ∙ c.in-Some.is) _ _ c.in_ok-above.above _ c.in-Some-parent.is
+    (moved-there _ _ _ _ c.in_ok-entry.ensures.same c.in_ok-above.ensures.found) (cc)
+    (record { parent_is = c.gap_beside.ensures.parent; left = c.gap_beside.ensures.left; right = c.gap_beside.ensures.right; kind = refl; first = refl })

@@ -1,0 +1,194 @@
+//! Trees of values, written below their top.
+ghost use Rattle.std.specs.Prelude.{◌≡◌, ◌+◌, ◌<◌, ◌≤◌, ◌^◌, None, [], ◌∷◌, suc, true, IfOk, OnOk};
+ghost use Rattle.sx_tree.specs.Record.{IsLink};
+ghost use Rattle.sx_view.specs.Rows.{row_of};
+ghost use Rattle.sx_tree.specs.Value as plain;
+ghost use Rattle.sx_tree.specs.Value.{value_of, values_of, fields_of, nodes_of_values, nodes_of_fields};
+ghost use Rattle.sx_model.specs.Hash.{local_hash};
+ghost use Rattle.sx_model.specs.Holes.{shown};
+ghost use Rattle.sx_model.specs.Numbered.{numbered_values, numbered_fields};
+ghost use Rattle.sx_edit.specs.Grow.{IsAdded, IsKept, IsOneMore, IsKeyOver, child_rows, linked, only_if, top_of, top_row, trees_below};
+ghost use Rattle.sx_edit.specs.Steps.{GoesOn};
+
+use crate::children::{no_children, one_more, top_over};
+use crate::label::{Label, empty_text, scalar_label};
+use crate::reads::add;
+use crate::trees::Children;
+use std::alloc::{AllocError, Global};
+use sx_tree::json::{Json, Members};
+use sx_tree::record::{Kind, NodeRecord};
+use sx_tree::text::Text;
+use sx_view::RecordsMut;
+
+/// Links the record to the nodes around it.
+pub(crate) fn link(
+    top: NodeRecord,
+    parent: u32,
+    left: Option<u32>,
+    right: Option<u32>,
+) -> NodeRecord
+    requires parent_fits { parent < 2 ^ 30 }
+    requires left_fits { IsLink left }
+    requires right_fits { IsLink right }
+    ensures { row_of result ≡ linked parent left right (row_of top) }
+{
+    NodeRecord {
+        kind: top.kind,
+        parent: Some(parent),
+        left,
+        right,
+        first: top.first,
+        last: top.last,
+        children: top.children,
+        descendants: top.descendants,
+        hash: top.hash,
+        path: top.path,
+        label: top.label,
+    }
+}
+
+/// The number, where it is asked for.
+fn asked(more: bool, number: u32) -> Option<u32>
+    requires { more ≡ true → number < 2 ^ 30 }
+    ensures is { result ≡ only_if more number }
+    ensures fits { IsLink result }
+{
+    if more { Some(number) } else { None }
+}
+
+/// Puts the child of this record, below which all records are there, behind the children of the parent, where more may follow.
+fn hang<N: RecordsMut<NodeRecord>>(
+    alloc: Global,
+    nodes: &mut N,
+    parent: u32,
+    children: Children,
+    child: NodeRecord,
+    more: bool,
+) -> Result<Children, AllocError>
+    requires few { children.count ≤ children.nodes }
+    requires room { parent + 1 + children.nodes + (child.descendants + 1) ≤ 2 ^ 30 }
+    requires beyond { more ≡ true → parent + 1 + children.nodes + (child.descendants + 1) < 2 ^ 30 }
+    ensures children { IfOk result (λ new. IsOneMore children new (parent + 1 + children.nodes) child.descendants child.hash) }
+    ensures added { OnOk result (IsAdded ((
+      parent + 1 + children.nodes,
+      linked parent children.last
+          (only_if more (parent + 1 + children.nodes + (child.descendants + 1))) (row_of child),
+    ) ∷ []) (N.told nodes.old) (N.told nodes.new)) }
+    ensures goes_on { GoesOn N.told N.faults N.has_mark N.marks nodes.old nodes.new }
+{
+    let number = parent + 1 + children.nodes;
+    let right = asked(more, number + (child.descendants + 1));
+    let after = one_more(children, number, &child);
+    add(
+        alloc,
+        nodes,
+        number,
+        link(child, parent, children.last, right),
+    )?;
+    Ok(after)
+}
+
+/// Writes all records below the top of the value's tree, which gets this number, and the next ones in preorder. Gives the record of the top,
+/// but for its links to its parent and its siblings.
+#[cycle(grow)]
+pub(crate) fn grow<N: RecordsMut<NodeRecord>>(
+    alloc: Global,
+    nodes: &mut N,
+    value: &Json,
+    number: u32,
+) -> Result<NodeRecord, AllocError>
+    requires { number + plain.nodes (value_of value.now) ≤ 2 ^ 30 }
+    ensures top { IfOk result (λ top. row_of top ≡ top_row (top_of (value_of value.now) number) (trees_below (value_of value.now) number)) }
+    ensures added { OnOk result (IsAdded (child_rows number None (trees_below (value_of value.now) number)) (N.told nodes.old) (N.told nodes.new)) }
+    ensures goes_on { GoesOn N.told N.faults N.has_mark N.marks nodes.old nodes.new }
+{
+    match value {
+        Json::Scalar(scalar) => {
+            let label = scalar_label(alloc, scalar)?;
+            Ok(top_over(label, no_children()))
+        }
+        Json::Array(items) => {
+            let below = grow_items(alloc, nodes, items.as_slice(), number)?;
+            let text = empty_text(alloc)?;
+            let kind = Kind::Array;
+            Ok(top_over(Label { kind, text }, below))
+        }
+        Json::Object(members) => {
+            let below = grow_members(alloc, nodes, members, number)?;
+            let text = empty_text(alloc)?;
+            let kind = Kind::Object;
+            Ok(top_over(Label { kind, text }, below))
+        }
+    }
+}
+
+/// Writes the trees of the values below the parent, and gives what it keeps of them.
+#[cycle(grow)]
+fn grow_items<N: RecordsMut<NodeRecord>>(
+    alloc: Global,
+    nodes: &mut N,
+    values: &[Json],
+    parent: u32,
+) -> Result<Children, AllocError>
+    requires { parent + 1 + nodes_of_values (values_of values.now) ≤ 2 ^ 30 }
+    ensures kept { IfOk result (λ kept. IsKept kept (shown local_hash (numbered_values (values_of values.now) (suc parent)))) }
+    ensures added { OnOk result (IsAdded (child_rows parent None (numbered_values (values_of values.now) (suc parent)))
+        (N.told nodes.old) (N.told nodes.new)) }
+    ensures goes_on { GoesOn N.told N.faults N.has_mark N.marks nodes.old nodes.new }
+{
+    let mut children = no_children();
+    for (place, value) in values.iter().enumerate() {
+        let top = grow(alloc, nodes, value, parent + 1 + children.nodes)?;
+        let more = place + 1 < values.len();
+        children = hang(alloc, nodes, parent, children, top, more)?;
+    }
+    Ok(children)
+}
+
+/// Writes the Keys of the members below the parent with their values, and gives what it keeps of them.
+#[cycle(grow)]
+fn grow_members<N: RecordsMut<NodeRecord>>(
+    alloc: Global,
+    nodes: &mut N,
+    members: &Members,
+    parent: u32,
+) -> Result<Children, AllocError>
+    requires { parent + 1 + nodes_of_fields (fields_of members.now) ≤ 2 ^ 30 }
+    ensures kept { IfOk result (λ kept. IsKept kept (shown local_hash (numbered_fields (fields_of members.now) (suc parent)))) }
+    ensures added { OnOk result (IsAdded (child_rows parent None (numbered_fields (fields_of members.now) (suc parent)))
+        (N.told nodes.old) (N.told nodes.new)) }
+    ensures goes_on { GoesOn N.told N.faults N.has_mark N.marks nodes.old nodes.new }
+{
+    let names = members.names();
+    let values = members.values();
+    let mut children = no_children();
+    for (place, value) in values.iter().enumerate() {
+        let name = &names[place];
+        let number = parent + 1 + children.nodes;
+        let top = grow(alloc, nodes, value, number + 1)?;
+        let key = key_over(alloc, nodes, number, name, top)?;
+        let more = place + 1 < values.len();
+        children = hang(alloc, nodes, parent, children, key, more)?;
+    }
+    Ok(children)
+}
+
+/// Puts the value of this record, below which all records are there, below the Key of this number. Gives the record of the Key, but for its
+/// links to its parent and its siblings.
+pub(crate) fn key_over<N: RecordsMut<NodeRecord>>(
+    alloc: Global,
+    nodes: &mut N,
+    number: u32,
+    name: &Text,
+    value: NodeRecord,
+) -> Result<NodeRecord, AllocError>
+    requires { number + (value.descendants + 2) ≤ 2 ^ 30 }
+    ensures key { IfOk result (IsKeyOver number name.now (row_of value)) }
+    ensures added { OnOk result (IsAdded ((number + 1, linked number None None (row_of value)) ∷ []) (N.told nodes.old) (N.told nodes.new)) }
+    ensures goes_on { GoesOn N.told N.faults N.has_mark N.marks nodes.old nodes.new }
+{
+    let below = hang(alloc, nodes, number, no_children(), value, false)?;
+    let text = name.copy(alloc)?;
+    let kind = Kind::Key;
+    Ok(top_over(Label { kind, text }, below))
+}

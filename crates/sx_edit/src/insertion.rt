@@ -1,0 +1,142 @@
+//! A value that comes to a place.
+ghost use Rattle.std.specs.Prelude.{◌≡◌, ◌+◌, ◌≤◌, ◌^◌, ◌&&◌, not, Some, None, is_none, is_some, if◌then◌else◌, IfErr, IfOk, IfNone};
+ghost use Rattle.std.specs.Option.{option_copied, option_or};
+ghost use Rattle.sx_outside.specs.Faults.{Rose};
+ghost use Rattle.sx_tree.specs.Value.{value_of};
+ghost use Rattle.sx_tree.specs.declared.edit.EditRefusal.TheVariants as refusals;
+ghost use Rattle.sx_model.specs.Edit as model;
+ghost use Rattle.sx_model.specs.Tree as tree;
+ghost use Rattle.sx_edit.specs.Answers.{AnswersEach};
+ghost use Rattle.sx_edit.specs.Damage.{Explains, IsDamaged};
+ghost use Rattle.sx_edit.specs.EditFault.{ExplainsEdit};
+ghost use Rattle.sx_edit.specs.Places.{ChecksChildren, FindsTaken};
+ghost use Rattle.sx_edit.specs.Steps.{GoesOn};
+
+use crate::fault::EditFault;
+use crate::fill::fill;
+use crate::kinds::{is_document, is_object};
+use crate::names::find_key;
+use crate::places::target_of;
+use crate::room::make_room;
+use crate::trees::Target;
+use std::alloc::Global;
+use sx_tree::edit::{EditRefusal, Edited, Place};
+use sx_tree::json::Json;
+use sx_tree::record::NodeRecord;
+use sx_tree::text::Text;
+use sx_view::{Fault, RecordsMut};
+
+/// The Key that has the name among the children there. Only an object has Keys.
+fn taken_name<N: RecordsMut<NodeRecord>>(
+    alloc: Global,
+    nodes: &mut N,
+    next: u32,
+    target: Target,
+    name: Option<&Text>,
+) -> Result<Option<u32>, Fault>
+    ensures found { IfOk result (λ found. FindsTaken next target (option_copied name.entry) (N.told nodes.old) (Some found)) }
+    ensures cannot { IfErr result (λ fault. IsDamaged fault → FindsTaken next target (option_copied name.entry) (N.told nodes.old) None) }
+    ensures same { N.told nodes.new ≡ N.told nodes.old }
+    ensures goes_on { GoesOn N.told N.faults N.has_mark N.marks nodes.old nodes.new }
+    ensures fault { IfErr result (Explains next (N.told nodes.old) (Rose (N.faults nodes.old) (N.faults nodes.new))) }
+{
+    let Some(asked) = name else {
+        return Ok(None);
+    };
+    if !is_object(target.kind) {
+        return Ok(None);
+    }
+    find_key(
+        alloc,
+        nodes,
+        next,
+        target.gap.parent,
+        target.first,
+        asked,
+        None,
+    )
+}
+
+/// Whether the document has a child there.
+fn is_full(target: Target) -> bool
+    ensures { result ≡ (tree.is_document target.kind && is_some target.first) }
+{
+    is_document(target.kind) && target.first.is_some()
+}
+
+/// Checks that no Key there has the name, and that the document has no child.
+fn check_children<N: RecordsMut<NodeRecord>>(
+    alloc: Global,
+    nodes: &mut N,
+    next: u32,
+    target: Target,
+    name: Option<&Text>,
+) -> Result<(), EditFault>
+    ensures checks { ChecksChildren next target (option_copied name.entry) (N.told nodes.old) result }
+    ensures same { N.told nodes.new ≡ N.told nodes.old }
+    ensures goes_on { GoesOn N.told N.faults N.has_mark N.marks nodes.old nodes.new }
+    ensures fault { IfErr result (ExplainsEdit next (N.told nodes.old) (Rose (N.faults nodes.old) (N.faults nodes.new))) }
+{
+    if let Some(node) = taken_name(alloc, nodes, next, target, name)? {
+        return Err(EditFault::Refused(EditRefusal::NameTaken { node }));
+    }
+    if is_full(target) {
+        let node = target.gap.parent;
+        return Err(EditFault::Refused(EditRefusal::DocumentFull { node }));
+    }
+    Ok(())
+}
+
+/// The refusal for a name that is missing, or is not asked for.
+fn name_refusal(in_object: bool, name: Option<&Text>) -> Option<EditRefusal>
+    ensures { result ≡ option_or (model.when (in_object && is_none (option_copied name.entry)) refusals.NameMissing)
+        (model.when (not in_object && is_some (option_copied name.entry)) refusals.NameUnasked) }
+{
+    match (in_object, name.is_some()) {
+        (true, false) => Some(EditRefusal::NameMissing),
+        (false, true) => Some(EditRefusal::NameUnasked),
+        (true, true) | (false, false) => None,
+    }
+}
+
+/// How many Keys come with a value below an object, or below another node.
+fn new_keys(in_object: bool) -> u32
+    ensures is { result ≡ (if in_object then 1 else 0) }
+{
+    if in_object { 1 } else { 0 }
+}
+
+/// The value comes to the place, among the members of an object below a new Key of the name. On a fault the records may be half changed.
+pub(crate) fn insert<N: RecordsMut<NodeRecord>>(
+    alloc: Global,
+    nodes: &mut N,
+    next: u32,
+    place: Place,
+    name: Option<&Text>,
+    value: &Json,
+) -> Result<Edited, EditFault>
+    requires { next ≤ 2 ^ 30 }
+    ensures answers { AnswersEach (model.insert place (option_copied name.entry) (value_of value.now)) next (N.told nodes.old) (N.told nodes.new) result }
+    ensures goes_on { GoesOn N.told N.faults N.has_mark N.marks nodes.old nodes.new }
+    ensures fault { IfErr result (ExplainsEdit next (N.told nodes.old) (Rose (N.faults nodes.old) (N.faults nodes.new))) }
+{
+    let target = target_of(alloc, nodes, next, place)?;
+    check_children(alloc, nodes, next, target, name)?;
+    let in_object = is_object(target.kind);
+    let more = make_room(
+        alloc,
+        nodes,
+        next,
+        target.gap.parent,
+        new_keys(in_object),
+        value,
+    )?;
+    if let Some(refusal) = name_refusal(in_object, name) {
+        return Err(EditFault::Refused(refusal));
+    }
+    fill(alloc, nodes, next, target.gap, None, name, value)?;
+    Ok(Edited {
+        first: Some(next),
+        next: next + more,
+    })
+}

@@ -1,0 +1,59 @@
+//! A value in the place of a node with all below it.
+ghost use Rattle.std.specs.Prelude.{◌≡◌, ◌≤◌, ◌^◌, IfErr};
+ghost use Rattle.sx_outside.specs.Faults.{Rose};
+ghost use Rattle.sx_tree.specs.Value.{value_of};
+ghost use Rattle.sx_model.specs.Edit as model;
+ghost use Rattle.sx_edit.specs.Answers.{AnswersEach};
+ghost use Rattle.sx_edit.specs.EditFault.{ExplainsEdit};
+ghost use Rattle.sx_edit.specs.Steps.{GoesOn};
+
+use crate::fault::EditFault;
+use crate::fill::fill;
+use crate::kinds::is_value;
+use crate::reads::{parent_of, read};
+use crate::removal::{take_out, tree_of};
+use crate::room::make_room;
+use crate::trees::Gap;
+use std::alloc::Global;
+use sx_tree::edit::{EditRefusal, Edited};
+use sx_tree::json::Json;
+use sx_tree::record::NodeRecord;
+use sx_view::RecordsMut;
+
+/// The value takes the place of the node with all below it. On a fault the records may be half changed.
+pub(crate) fn replace<N: RecordsMut<NodeRecord>>(
+    alloc: Global,
+    nodes: &mut N,
+    next: u32,
+    node: u32,
+    value: &Json,
+) -> Result<Edited, EditFault>
+    requires { next ≤ 2 ^ 30 }
+    ensures answers { AnswersEach (model.replace node (value_of value.now)) next (N.told nodes.old) (N.told nodes.new) result }
+    ensures goes_on { GoesOn N.told N.faults N.has_mark N.marks nodes.old nodes.new }
+    ensures fault { IfErr result (ExplainsEdit next (N.told nodes.old) (Rose (N.faults nodes.old) (N.faults nodes.new))) }
+{
+    let Some(entry) = read(alloc, nodes, node)? else {
+        return Err(EditFault::Refused(EditRefusal::NoNode { node }));
+    };
+    if !is_value(entry.kind) {
+        return Err(EditFault::Refused(EditRefusal::WrongKind {
+            node,
+            kind: entry.kind,
+        }));
+    }
+    let parent = parent_of(node, &entry)?;
+    let more = make_room(alloc, nodes, next, parent, 0, value)?;
+    let tree = tree_of(node, &entry)?;
+    take_out(alloc, nodes, next, node, &entry)?;
+    let gap = Gap {
+        parent,
+        left: entry.left,
+        right: entry.right,
+    };
+    fill(alloc, nodes, next, gap, Some(tree), None, value)?;
+    Ok(Edited {
+        first: Some(next),
+        next: next + more,
+    })
+}
