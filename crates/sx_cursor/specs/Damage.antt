@@ -1,11 +1,13 @@
 -- The rules that records of nodes keep, and what tells of one that is broken.
-use Rattle.std.specs.Prelude.{ℕ, ◌≡◌, ◌+◌, ◌⊎◌, Option, None}
+use Rattle.std.specs.Prelude.{ℕ, ◌≡◌, ◌+◌, ◌⊎◌, Option, None, Some}
 use Rattle.sx_bytes.specs.Damage.{number_damage}
 use Rattle.sx_bytes.specs.declared.damage.Damage.{Damage}
+use Rattle.sx_tree.specs.declared.record.Kind.TheVariants.{Key}
 use Rattle.sx_tree.specs.declared.record.NodeRecord.{NodeRecord}
 use Rattle.sx_view.specs.Records.{RecordMap}
 use Rattle.sx_view.specs.declared.fault.Fault.{Fault}
 use Rattle.sx_view.specs.declared.fault.Fault.TheVariants.{Failed, Damaged, OutOfMemory}
+use Rattle.sx_model.specs.Records.{NodeRow}
 use Rattle.sx_cursor.specs.declared.damage.TheConstants.{BROKEN_LINK, ENDLESS, MISPLACED}
 use Rattle.sx_cursor.specs.Told.{Tells}
 
@@ -36,3 +38,17 @@ abbrev pub IsDamaged : Fault → Type 0
 IsDamaged Failed = ⊥
 IsDamaged (Damaged damage) = Unit {0}
 IsDamaged OutOfMemory = ⊥
+
+-- ---- rules that are broken
+
+-- the node has this first child, or this sibling behind it
+abbrev pub IsLinked : Option (RecordMap NodeRecord) → ℕ → ℕ → Type 0
+IsLinked o from to = (w : NodeRow) × (Tells o from (Some w) × ((w.first ≡ Some to) ⊎ (w.right ≡ Some to)))
+
+-- a link from a node to one that has no record
+abbrev pub HasBrokenLink : Option (RecordMap NodeRecord) → Damage → Type 0
+HasBrokenLink o damage = (from : ℕ) × ((to : ℕ) × (IsLinked o from to × IsBrokenLink o from to damage))
+
+-- a Key without a child
+abbrev pub HasBareKey : Option (RecordMap NodeRecord) → Damage → Type 0
+HasBareKey o damage = (k : ℕ) × ((w : NodeRow) × (Tells o k (Some w) × (w.kind ≡ Key) × (w.first ≡ None) × (damage ≡ misplaced k 0)))

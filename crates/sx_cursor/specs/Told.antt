@@ -1,5 +1,5 @@
 -- Records of nodes that are told, and those that tell the rows of a document.
-use Rattle.std.specs.Prelude.{◌≡◌, ℕ, List, [], ◌∷◌, Option, None, Some, option_map, IfSome}
+use Rattle.std.specs.Prelude.{◌≡◌, ◌≤◌, ℕ, List, [], ◌∷◌, Option, None, Some, option_map, IfSome}
 use Rattle.std.specs.Option.{option_or}
 use Rattle.std.specs.Ordering.{nat_cmp}
 use Rattle.std.specs.FinMap as fin
@@ -11,7 +11,7 @@ use Rattle.sx_view.specs.Records.{RecordMap}
 use Rattle.sx_view.specs.Rows.{row_of}
 use Rattle.sx_model.specs.Holes.{Frame, around_hole}
 use Rattle.sx_model.specs.Records.{NodeRow, at_top, first_of, last_of, row, rows}
-use Rattle.sx_model.specs.Tree.{Node, Forest, IsWellFormed}
+use Rattle.sx_model.specs.Tree.{Node, Forest, IsWellFormed, size}
 
 -- where the records are told, this is what they tell of the node: its row, or that there is none
 abbrev pub Tells : Option (RecordMap NodeRecord) → ℕ → Option NodeRow → Type 0
@@ -26,6 +26,10 @@ Holds (Some records) entries = (q : ℕ) → option_map row_of (fin.get records 
 pub record Shows (local : Kind → List ℕ → ℕ) (number : List Step → ℕ) (trees : Forest) (o : Option (RecordMap NodeRecord)) : Type 0 where
   pub holds : Holds o (rows local number at_top trees)
   pub well_formed : IsWellFormed trees
+
+-- The records are those of no document of so few nodes.
+unfoldable pub IsNoDocument : Option (RecordMap NodeRecord) → ℕ → Type 0
+IsNoDocument o count = (local : Kind → List ℕ → ℕ) (number : List Step → ℕ) (trees : Forest) → Shows local number trees o → size trees ≤ count → ⊥
 
 -- each of these rows is told
 abbrev pub TellsAll : Option (RecordMap NodeRecord) → List (ℕ × NodeRow) → Type 0

@@ -7,4 +7,4 @@ mod reads;
 
 pub use cursor::Cursor;
 pub use damage::{broken_link, endless, misplaced};
-pub use reads::read_linked;
+pub use reads::{read, read_linked};

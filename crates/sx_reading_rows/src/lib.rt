@@ -7,3 +7,5 @@ mod documents;
 mod moves;
 #[cfg(test)]
 mod texts;
+#[cfg(test)]
+mod valid_times;

@@ -11,10 +11,10 @@ use Rattle.sx_tree.specs.Record.{kind_byte}
 use Rattle.sx_tree.specs.declared.record.Kind.{Kind}
 use Rattle.sx_model.specs.Records.{NodeRow}
 use Rattle.sx_model.specs.Tree.{may_stand_below}
-use Rattle.sx_cursor.specs.Damage.{Explains, IsBrokenLink, IsDamaged, misplaced}
+use Rattle.sx_cursor.specs.Damage.{Explains, IsBrokenLink, IsDamaged, misplaced, IsLinked}
 use Rattle.sx_cursor.specs.Told.{Tells}
 use Rattle.sx_text.specs.Pen.{damaged, IsRead, Writes}
-use Rattle.sx_text.specs.Text.{IsBroken, IsLinked}
+use Rattle.sx_text.specs.Text.{IsBroken}
 use Rattle.sx_text.specs.declared.pen.Pen.{Pen}
 use Rattle.sx_text.proofs.Writing.{writes-absent, writes-untold}
 

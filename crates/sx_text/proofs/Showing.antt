@@ -15,10 +15,10 @@ use Rattle.sx_model.specs.TreeText.{closing, opening, texts, text_at}
 use Rattle.sx_model.proofs.Plugging.{above, fit_back, stand_inside}
 use Rattle.sx_model.proofs.Spots.{spot_in-absent}
 use Rattle.sx_cursor.specs.Damage.{IsDamaged}
-use Rattle.sx_cursor.specs.Told.{Tells, Shows}
+use Rattle.sx_cursor.specs.Told.{Tells, Shows, IsNoDocument}
 use Rattle.sx_cursor.proofs.Telling.{IsAt, is_at, not_there, told}
 use Rattle.sx_text.specs.Pen.{IsLevel, Rest, wrote, damaged, IsOutcome, Writes}
-use Rattle.sx_text.specs.Text.{Answers, IsText, IsNoDocument, VisitsOnce}
+use Rattle.sx_text.specs.Text.{Answers, IsText, VisitsOnce}
 use Rattle.sx_text.specs.declared.pen.Open.{Open}
 use Rattle.sx_text.specs.declared.pen.Pen.{Pen}
 use Rattle.sx_text.proofs.Writing.{never_bare}

@@ -9,7 +9,7 @@ use Rattle.sx_model.specs.Records.{NodeRow, Around, first_of, rows}
 use Rattle.sx_model.specs.Tree.{Forest, no_trees, FitBelow, size}
 use Rattle.sx_model.specs.TreeText.{closing, texts}
 use Rattle.sx_cursor.specs.Told.{Tells, TellsAll}
-use Rattle.sx_text.specs.Text.{IsLinked}
+use Rattle.sx_cursor.specs.Damage.{IsLinked}
 use Rattle.sx_text.specs.declared.pen.Open.{Open}
 use Rattle.sx_text.specs.declared.pen.Pen.{Pen}
 

@@ -2,7 +2,6 @@
 use Rattle.std.specs.Prelude.{◌≡◌, ◌⊎◌, ◌+◌, ◌≤◌, ℕ, Bool, true, false, List, ◌++◌, Option, Some, None}
 use Rattle.sx_bytes.specs.declared.damage.Damage.{Damage}
 use Rattle.sx_tree.specs.declared.record.Kind.{Kind}
-use Rattle.sx_tree.specs.declared.record.Kind.TheVariants.{Key}
 use Rattle.sx_tree.specs.declared.record.NodeRecord.{NodeRecord}
 use Rattle.sx_tree.specs.declared.record.Step.{Step}
 use Rattle.sx_tree.specs.Record.{kind_byte}
@@ -10,7 +9,7 @@ use Rattle.sx_view.specs.Records.{RecordMap}
 use Rattle.sx_model.specs.Records.{NodeRow}
 use Rattle.sx_model.specs.Tree.{Forest, Spot, size, spot, may_stand_below}
 use Rattle.sx_model.specs.TreeText.{text_at}
-use Rattle.sx_cursor.specs.Damage.{IsBrokenLink, endless, misplaced}
+use Rattle.sx_cursor.specs.Damage.{HasBareKey, HasBrokenLink, IsLinked, endless, misplaced}
 use Rattle.sx_cursor.specs.Told.{Tells, Shows}
 
 -- True: there is the node, and behind what was there before stands its text. False: there is no such node.
@@ -23,18 +22,6 @@ unfoldable pub IsText : Option (RecordMap NodeRecord) → ℕ → List ℕ → L
 IsText o k before after there =
     (local : Kind → List ℕ → ℕ) (number : List Step → ℕ) (trees : Forest) → Shows local number trees o → Answers trees k before after there
 
--- The records are those of no document of so few nodes.
-unfoldable pub IsNoDocument : Option (RecordMap NodeRecord) → ℕ → Type 0
-IsNoDocument o count = (local : Kind → List ℕ → ℕ) (number : List Step → ℕ) (trees : Forest) → Shows local number trees o → size trees ≤ count → ⊥
-
--- the node has this first child, or this sibling behind it
-abbrev pub IsLinked : Option (RecordMap NodeRecord) → ℕ → ℕ → Type 0
-IsLinked o from to = (w : NodeRow) × (Tells o from (Some w) × ((w.first ≡ Some to) ⊎ (w.right ≡ Some to)))
-
--- a link from a node to one that has no record
-abbrev pub HasBrokenLink : Option (RecordMap NodeRecord) → Damage → Type 0
-HasBrokenLink o damage = (from : ℕ) × ((to : ℕ) × (IsLinked o from to × IsBrokenLink o from to damage))
-
 -- a node to which a link leads, and another one that has a kind below which the first cannot stand
 abbrev pub HasMisplaced : Option (RecordMap NodeRecord) → Damage → Type 0
 HasMisplaced o damage =
@@ -42,10 +29,6 @@ HasMisplaced o damage =
     × ((a : ℕ) × ((above : NodeRow)
     × (((from : ℕ) × IsLinked o from k)
     × (Tells o k (Some child) × (Tells o a (Some above) × (may_stand_below above.kind child.kind ≡ false) × (damage ≡ misplaced k (kind_byte child.kind))))))))
-
--- a Key without a child
-abbrev pub HasBareKey : Option (RecordMap NodeRecord) → Damage → Type 0
-HasBareKey o damage = (k : ℕ) × ((w : NodeRow) × (Tells o k (Some w) × (w.kind ≡ Key) × (w.first ≡ None) × (damage ≡ misplaced k 0)))
 
 -- what is told breaks one of the rules
 abbrev pub IsBroken : Option (RecordMap NodeRecord) → ℕ → Damage → Type 0

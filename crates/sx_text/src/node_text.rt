@@ -4,14 +4,14 @@ ghost use Rattle.sx_outside.specs.Faults.{Rose};
 ghost use Rattle.sx_view.specs.Records.{ExplainsFault};
 ghost use Rattle.sx_view.specs.Rows.{row_of};
 ghost use Rattle.sx_cursor.specs.Damage.{Explains, IsDamaged};
-ghost use Rattle.sx_cursor.specs.Told.{Tells};
-ghost use Rattle.sx_text.specs.Text.{IsBroken, IsNoDocument, IsText, VisitsOnce};
+ghost use Rattle.sx_cursor.specs.Told.{Tells, IsNoDocument};
+ghost use Rattle.sx_text.specs.Text.{IsBroken, IsText, VisitsOnce};
 
 use crate::pen::{Open, Pen};
 use crate::pieces::append_opening;
 use std::alloc::Global;
 use std::mem;
-use sx_cursor::endless;
+use sx_cursor::{endless, read};
 use sx_tree::bytes::Bytes;
 use sx_tree::record::NodeRecord;
 use sx_view::{Fault, Records};
@@ -23,22 +23,6 @@ fn cut_back(alloc: Global, out: &mut Bytes, len: usize)
     let mut bytes = mem::replace(out, Bytes::new(alloc)).into_vec();
     bytes.truncate(len);
     *out = Bytes::from_vec(bytes);
-}
-
-/// The record of the node. None where there is none.
-fn read<N: Records<NodeRecord>>(
-    alloc: Global,
-    records: &mut N,
-    node: u32,
-) -> Result<Option<NodeRecord>, Fault>
-    ensures found { IfOk result (λ found. Tells (N.told records.old) node (option_map row_of found)) }
-    ensures fault { IfErr result (ExplainsFault (N.told records.old) (Rose (N.faults records.old) (N.faults records.new))) }
-    ensures gets { N.gets records.new ≤ N.gets records.old + 1 }
-    ensures never_falls { N.faults records.old ≤ N.faults records.new }
-    ensures keeps { N.keeps records.old records.new }
-    ensures same { N.told records.new ≡ N.told records.old }
-{
-    records.get(alloc, node)
 }
 
 /// Appends the text of the node, whose record this is, with all below it.
