@@ -39,7 +39,7 @@ stands-plug : (frames : List Frame) (inside : Forest) → stands (plug frames in
 stands-plug [] inside = simp append-nil
 stands-plug (frame ∷ frames) inside = simp (stands-plug frames (beside frame.before (tree_then frame.node inside frame.behind)), stands-beside, append_assoc)
 
-numbers-stands : (above : List Node) (trees : Forest) → numbers_of (stands_below above trees) ≡ numbers trees
+pub numbers-stands : (above : List Node) (trees : Forest) → numbers_of (stands_below above trees) ≡ numbers trees
 numbers-stands above no_trees = refl
 numbers-stands above (tree_then n below rest) = simp (map-append, numbers-stands (n ∷ above) below, numbers-stands above rest)
 

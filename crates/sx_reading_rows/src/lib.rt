@@ -8,4 +8,6 @@ mod documents;
 #[cfg(test)]
 mod moves;
 #[cfg(test)]
+mod selections;
+#[cfg(test)]
 mod texts;
