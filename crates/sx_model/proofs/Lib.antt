@@ -1,5 +1,6 @@
 pub mod Accepted
 pub mod Apart
+pub mod AxisSpots
 pub mod Changes
 mod EditRows
 pub mod Ends

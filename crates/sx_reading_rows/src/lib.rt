@@ -2,9 +2,13 @@
 #![tactic(auto)]
 
 #[cfg(test)]
+mod axes;
+#[cfg(test)]
 mod documents;
 #[cfg(test)]
 mod moves;
+#[cfg(test)]
+mod selections;
 #[cfg(test)]
 mod texts;
 #[cfg(test)]

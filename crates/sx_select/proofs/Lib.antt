@@ -1,3 +1,6 @@
+mod Documents
 mod Words
 mod Names
+mod Searching
+mod Selecting
 mod Steps

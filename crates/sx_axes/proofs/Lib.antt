@@ -1,0 +1,5 @@
+pub mod Backward
+pub mod Faults
+pub mod Passing
+pub mod Starting
+pub mod Stepping

@@ -1,0 +1,5 @@
+pub mod Broken
+pub mod Course
+pub mod Gives
+pub mod Start
+pub mod Walk
