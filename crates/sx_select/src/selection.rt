@@ -1,9 +1,7 @@
 //! The nodes to which a path leads.
-ghost use Rattle.std.specs.Prelude.{◌≡◌, ◌+◌, ◌≤◌, IfErr, IfOk, option_map};
+ghost use Rattle.std.specs.Prelude.{◌≡◌, ◌+◌, ◌≤◌, IfErr, IfOk};
 ghost use Rattle.sx_outside.specs.Faults.{Rose};
-ghost use Rattle.sx_view.specs.Records.{ExplainsFault};
-ghost use Rattle.sx_view.specs.Rows.{row_of};
-ghost use Rattle.sx_cursor.specs.Told.{Tells, IsNoDocument};
+ghost use Rattle.sx_cursor.specs.Told.{IsNoDocument};
 ghost use Rattle.sx_cursor.specs.Damage.{Explains, IsDamaged};
 ghost use Rattle.sx_text.specs.Text.{IsBroken};
 ghost use Rattle.sx_select.specs.Selected.{Selects, VisitsEachOnce};
@@ -11,26 +9,14 @@ ghost use Rattle.sx_select.specs.Selected.{Selects, VisitsEachOnce};
 use crate::level::Level;
 use crate::pending::Search;
 use std::alloc::Global;
-use sx_cursor::endless;
+use sx_cursor::{endless, read};
 use sx_tree::numbers::Numbers;
 use sx_tree::query::PathExpr;
 use sx_tree::record::NodeRecord;
 use sx_view::{Fault, Records};
 
-/// The record of the document itself, where there is one.
-fn read_document<N: Records<NodeRecord>>(
-    alloc: Global,
-    records: &mut N,
-) -> Result<Option<NodeRecord>, Fault>
-    ensures found { IfOk result (λ found. Tells (N.told records.old) 0 (option_map row_of found)) }
-    ensures fault { IfErr result (ExplainsFault (N.told records.old) (Rose (N.faults records.old) (N.faults records.new))) }
-    ensures gets { N.gets records.new ≤ N.gets records.old + 1 }
-    ensures never_falls { N.faults records.old ≤ N.faults records.new }
-    ensures keeps { N.keeps records.old records.new }
-    ensures same { N.told records.new ≡ N.told records.old }
-{
-    records.get(alloc, 0)
-}
+/// The number of the document itself.
+const DOCUMENT: u32 = 0;
 
 /// The nodes to which the path leads, in preorder, each once: from the document's child on, each step is taken from all nodes to
 /// which the steps before it lead. It visits each node of the document at most once, and at most `count` nodes, and takes memory
@@ -53,7 +39,7 @@ pub fn select<N: Records<NodeRecord>>(
     ensures never_falls { N.faults records.old ≤ N.faults records.new }
     ensures keeps { N.keeps records.old records.new }
 {
-    let Some(document) = read_document(alloc, records)? else {
+    let Some(document) = read(alloc, records, DOCUMENT)? else {
         let nothing = Numbers::new(alloc);
         return Ok(nothing);
     };
