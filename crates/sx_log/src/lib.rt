@@ -6,9 +6,11 @@ mod birth;
 mod creation;
 mod fault;
 mod limits;
+mod log;
 mod reading;
 
 pub use birth::Birth;
 pub use creation::create;
 pub use fault::{LogFault, RoomFault};
 pub use limits::room;
+pub use log::{GroupRow, Groups, Log};
