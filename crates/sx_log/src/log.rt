@@ -1,4 +1,7 @@
 //! What is kept in memory of a volume's log.
+ghost use Rattle.std.specs.Prelude.{◌≡◌};
+ghost use Rattle.sx_log.specs.Kept.{listed};
+
 use crate::Birth;
 use sx_frame::FrameList;
 use sx_root::RevisionRoot;
@@ -36,4 +39,13 @@ pub struct Log {
     /// The place of the closed gate, in bytes from the start of the volume.
     pub end: u64,
     pub(crate) pending: Pending,
+}
+
+impl Groups {
+    /// The groups, one a revision from 1 on.
+    pub fn as_slice(&self) -> &[GroupRow]
+        ensures { result.now ≡ listed self.now }
+    {
+        self.rows.as_slice()
+    }
 }
