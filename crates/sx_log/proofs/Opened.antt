@@ -17,7 +17,7 @@ use Rattle.sx_log.proofs.Ruled.{violation_of}
 use Rattle.sx_log.specs.Creating.{birth_of}
 use Rattle.sx_log.specs.Finding.{Finds, fields_in}
 use Rattle.sx_log.specs.Kept.{first_place, listed, root_behind, row_at, rows_from, rows_size}
-use Rattle.sx_log.specs.Opening.{Begins, Explains, IsGroupAt, IsOpened, IsPartAt, IsShort, TellsDamage, TellsFault, part_size}
+use Rattle.sx_log.specs.Opening.{Begins, Explains, IsGroupAt, IsOpened, IsPartAt, IsCounted, TellsDamage, TellsFault, part_size}
 use Rattle.sx_log.specs.declared.fault.LogFault.{LogFault}
 use Rattle.sx_log.specs.declared.fault.LogFault.TheVariants.{Failed, NotOurs, Unborn, Born, Damaged, OutOfMemory}
 use Rattle.sx_log.specs.declared.log.GroupRow.{GroupRow}
@@ -62,7 +62,7 @@ module _ (bytes : Option (List ℕ)) (size : ℕ) (log : Log) (b : Begins bytes 
 
   -- ---- what was read so far
 
-  pub short_here : (count : ℕ) → count ≤ 174 + rows_size (listed log.groups) → IsShort bytes size count
+  pub short_here : (count : ℕ) → count ≤ 174 + rows_size (listed log.groups) → IsCounted bytes size count
   short_here count few = inr (record {
     birth = birth_of log.birth;
     groups = b.groups;
@@ -80,7 +80,7 @@ module _ (bytes : Option (List ℕ)) (size : ℕ) (log : Log) (b : Begins bytes 
       told (Some all) front = (front.0, front.1, omega arith)
 
   -- and so much of the group behind the gate
-  pub short_behind : (count left more : ℕ) → size ≡ log.end + 1 + left → IsPartAt bytes (log.end + 1) left more → count ≤ (174 + rows_size (listed log.groups)) + more → IsShort bytes size count
+  pub short_behind : (count left more : ℕ) → size ≡ log.end + 1 + left → IsPartAt bytes (log.end + 1) left more → count ≤ (174 + rows_size (listed log.groups)) + more → IsCounted bytes size count
   short_behind count left more whole part few = inr (record {
     birth = birth_of log.birth;
     groups = b.groups;
@@ -195,7 +195,7 @@ module _ (bytes : Option (List ℕ)) (size : ℕ) (log : Log) (b : Begins bytes 
         )
 
 -- fewer bytes were read
-pub short_less : (bytes : Option (List ℕ)) (size few count : ℕ) → few ≤ count → IsShort bytes size count → IsShort bytes size few
+pub short_less : (bytes : Option (List ℕ)) (size few count : ℕ) → few ≤ count → IsCounted bytes size count → IsCounted bytes size few
 short_less bytes size few count less (inl short) = inl (omega (arith, less, short))
 short_less bytes size few count less (inr cut) =
     inr (record { birth = cut.birth; groups = cut.groups; follow = cut.follow; keep = cut.keep; more = cut.more; fits = cut.fits; front = cut.front; count_is = omega (arith, less, cut.count_is) })

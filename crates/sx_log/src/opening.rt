@@ -12,7 +12,7 @@ ghost use Rattle.sx_log.specs.Calls.{GoesOn, IsSettled, OnlyReads};
 ghost use Rattle.sx_log.specs.Creating.{IsOther, birth_of};
 ghost use Rattle.sx_log.specs.Finding.{fields_in};
 ghost use Rattle.sx_log.specs.Kept.{listed, opened_size, root_behind, rows_size};
-ghost use Rattle.sx_log.specs.Opening.{Begins, Explains, IsGiven, IsGroupAt, IsNotSynced, IsOpened, IsPartAt, IsShort, IsSynced, TellsFault};
+ghost use Rattle.sx_log.specs.Opening.{Begins, Explains, IsCounted, IsGiven, IsGroupAt, IsOpened, IsPartAt, IsSynced, IsSyncedOrNot, TellsFault};
 ghost use Rattle.sx_outside.specs.Faults.{Rose};
 ghost use Rattle.sx_root.specs.Root.{IsRoot, mark, root_bytes};
 
@@ -75,9 +75,9 @@ pub fn open<V: Volume>(alloc: Global, volume: &mut V) -> Result<Log, LogFault>
     ensures same_size { V.size volume.new ≡ V.size volume.old }
     ensures same_held { V.held volume.new ≡ V.held volume.old }
     ensures synced { OnOk result (IfSome (V.bytes volume.old) (λ image. IsSynced V.Volume image volume.old volume.new)) }
-    ensures synced_or_not { OnErr result (IfSome (V.bytes volume.old) (λ image. IsSynced V.Volume image volume.old volume.new ⊎ IsNotSynced V.Volume volume.old volume.new)) }
+    ensures synced_or_not { OnErr result (IsSyncedOrNot V.Volume volume.old volume.new) }
     ensures counted { IfOk result (λ log. V.bytes_read volume.new ≤ V.bytes_read volume.old + opened_size log) }
-    ensures counted_err { OnErr result (IsShort (V.bytes volume.old) (V.size volume.old) (V.bytes_read volume.new - V.bytes_read volume.old)) }
+    ensures counted_err { OnErr result (IsCounted (V.bytes volume.old) (V.size volume.old) (V.bytes_read volume.new - V.bytes_read volume.old)) }
     ensures cause { IsErrOf result LogFault.Failed → Rose (V.faults volume.old) (V.faults volume.new) }
     ensures on { GoesOn V.Volume volume.old volume.new }
 {
@@ -90,7 +90,7 @@ fn read_log<V: Volume>(alloc: Global, volume: &mut V) -> Result<Log, LogFault>
     ensures log { IfOk result (IsOpened (V.bytes volume.old) (V.size volume.old)) }
     ensures explains { IfErr result (Explains (V.bytes volume.old)) }
     ensures counted { IfOk result (λ log. V.bytes_read volume.new ≤ V.bytes_read volume.old + opened_size log) }
-    ensures counted_err { OnErr result (IsShort (V.bytes volume.old) (V.size volume.old) (V.bytes_read volume.new - V.bytes_read volume.old)) }
+    ensures counted_err { OnErr result (IsCounted (V.bytes volume.old) (V.size volume.old) (V.bytes_read volume.new - V.bytes_read volume.old)) }
     ensures cause { IsErrOf result LogFault.Failed → Rose (V.faults volume.old) (V.faults volume.new) }
     ensures kept { OnlyReads V.Volume volume.old volume.new }
 {
@@ -140,7 +140,7 @@ fn read_groups<V: Volume>(alloc: Global, volume: &mut V, birth: Birth) -> Result
     ensures log { IfOk result (IsOpened (V.bytes volume.old) (V.size volume.old)) }
     ensures explains { IfErr result (Explains (V.bytes volume.old)) }
     ensures counted { IfOk result (λ log. V.bytes_read volume.new ≤ V.bytes_read volume.old + (1 + rows_size (listed log.groups))) }
-    ensures counted_err { OnErr result (IsShort (V.bytes volume.old) (V.size volume.old) (173 + (V.bytes_read volume.new - V.bytes_read volume.old))) }
+    ensures counted_err { OnErr result (IsCounted (V.bytes volume.old) (V.size volume.old) (173 + (V.bytes_read volume.new - V.bytes_read volume.old))) }
     ensures cause { IsErrOf result LogFault.Failed → Rose (V.faults volume.old) (V.faults volume.new) }
     ensures kept { OnlyReads V.Volume volume.old volume.new }
 {
@@ -170,8 +170,10 @@ fn read_next<V: Volume>(
     ensures more { IfOk result (λ more. more ≡ true → log.old.end < log.new.end) }
     ensures opened { IfOk result (λ more. more ≡ false → IsOpened (V.bytes volume.old) (V.size volume.old) log.new) }
     ensures explains { IfErr result (Explains (V.bytes volume.old)) }
-    ensures counted { IfOk result (λ more. V.bytes_read volume.new + rows_size (listed log.old.groups) ≤ V.bytes_read volume.old + rows_size (listed log.new.groups) + (if more then 0 else 1)) }
-    ensures counted_err { OnErr result (IsShort (V.bytes volume.old) (V.size volume.old) (173 + (rows_size (listed log.old.groups) + (V.bytes_read volume.new - V.bytes_read volume.old)))) }
+    ensures counted { IfOk result (λ more. V.bytes_read volume.new + opened_size log.old
+        ≤ V.bytes_read volume.old + opened_size log.new + (if more then 0 else 1)) }
+    ensures counted_err { OnErr result (IsCounted (V.bytes volume.old) (V.size volume.old)
+        (173 + (rows_size (listed log.old.groups) + (V.bytes_read volume.new - V.bytes_read volume.old)))) }
     ensures cause { IsErrOf result LogFault.Failed → Rose (V.faults volume.old) (V.faults volume.new) }
     ensures kept { OnlyReads V.Volume volume.old volume.new }
 {

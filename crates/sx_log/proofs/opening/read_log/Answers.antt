@@ -6,7 +6,7 @@ use Rattle.sx_log.proofs.Placed.{reads_then}
 use Rattle.sx_log.proofs.Ruled.{on_err_map, told_none}
 use Rattle.sx_log.specs.Creating.{birth_of}
 use Rattle.sx_log.specs.Finding.{Finds, HasFields, IsBornFinding, fields_in}
-use Rattle.sx_log.specs.Opening.{IsShort}
+use Rattle.sx_log.specs.Opening.{IsCounted}
 use Rattle.sx_log.specs.declared.reading.Finding.TheVariants.{Born}
 use Rattle.sx_log.proofs.opening.read_log.Goals as goal
 
@@ -36,9 +36,9 @@ returns-in_ok-birth-in-Born-clause-counted_err g c =
     let read : ℕ = g.V.Volume.bytes_read c.read_groups.new.volume - g.V.Volume.bytes_read c.args.volume.now in
     let least : ℕ = 173 + (g.V.Volume.bytes_read c.read_groups.new.volume - g.V.Volume.bytes_read c.find_birth.new.volume) in
     let few = subst (λ f. IsBornFinding f → g.V.Volume.bytes_read c.find_birth.new.volume ≤ g.V.Volume.bytes_read c.args.volume.now + 173) c.in-Born.is c.in_ok-find_birth.ensures.counted_born tt in
-    on_err_map c.read_groups.result (IsShort (g.V.Volume.bytes c.find_birth.new.volume) (g.V.Volume.size c.find_birth.new.volume) least) (IsShort (g.V.Volume.bytes c.args.volume.now) (g.V.Volume.size c.args.volume.now) read)
+    on_err_map c.read_groups.result (IsCounted (g.V.Volume.bytes c.find_birth.new.volume) (g.V.Volume.size c.find_birth.new.volume) least) (IsCounted (g.V.Volume.bytes c.args.volume.now) (g.V.Volume.size c.args.volume.now) read)
     (λ short. short_less (g.V.Volume.bytes c.args.volume.now) (g.V.Volume.size c.args.volume.now) read least (omega (arith, few))
-    (subst (λ b. IsShort b (g.V.Volume.size c.args.volume.now) least) c.find_birth.ensures.kept.same_bytes (subst (λ n. IsShort (g.V.Volume.bytes c.find_birth.new.volume) n least) c.find_birth.ensures.kept.same_size short)))
+    (subst (λ b. IsCounted b (g.V.Volume.size c.args.volume.now) least) c.find_birth.ensures.kept.same_bytes (subst (λ n. IsCounted (g.V.Volume.bytes c.find_birth.new.volume) n least) c.find_birth.ensures.kept.same_size short)))
     c.read_groups.ensures.counted_err
 
 pub returns-in_ok-birth-in-Born-clause-kept : goal.returns-in_ok-birth-in-Born-clause-kept

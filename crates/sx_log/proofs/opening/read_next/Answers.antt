@@ -5,14 +5,14 @@ use Rattle.sx_log.proofs.OpenedGroups.{rows_size-append}
 use Rattle.sx_log.proofs.Placed.{reads_then}
 use Rattle.sx_log.proofs.Ruled.{on_err}
 use Rattle.sx_log.specs.Kept.{listed, rows_size}
-use Rattle.sx_log.specs.Opening.{IsGroupAt, IsPartAt, IsShort, TellsFault}
+use Rattle.sx_log.specs.Opening.{IsGroupAt, IsPartAt, IsCounted, TellsFault}
 use Rattle.sx_log.specs.declared.log.GroupRow.{GroupRow}
 use Rattle.sx_log.proofs.opening.read_next.Goals as goal
 
 pub returns-in_err-byte_at-clause-counted_err : goal.returns-in_err-byte_at-clause-counted_err
 returns-in_err-byte_at-clause-counted_err g c =
     let count : ℕ = 173 + (rows_size (listed c.args.log.now.groups) + (g.V.Volume.bytes_read c.byte_at.new.volume - g.V.Volume.bytes_read c.args.volume.now)) in
-    on_err c.from_residual.result (IsShort (g.V.Volume.bytes c.args.volume.now) (g.V.Volume.size c.args.volume.now) count)
+    on_err c.from_residual.result (IsCounted (g.V.Volume.bytes c.args.volume.now) (g.V.Volume.size c.args.volume.now) count)
     (short_here (g.V.Volume.bytes c.args.volume.now) (g.V.Volume.size c.args.volume.now) c.args.log.now c.requires.begins count (omega (arith, c.byte_at.ensures.counted)))
 
 pub returns-then-branch-ne-OPEN-clause-opened : goal.returns-then-branch-ne-OPEN-clause-opened
@@ -35,7 +35,7 @@ returns-in_err-row-clause-counted_err g c =
     let more : ℕ = g.V.Volume.bytes_read c.read_group.new.volume - g.V.Volume.bytes_read c.byte_at.new.volume in
     let count : ℕ = 173 + (rows_size (listed log.groups) + (g.V.Volume.bytes_read c.read_group.new.volume - g.V.Volume.bytes_read c.args.volume.now)) in
     let part = subst (λ b. IsPartAt b (log.end + 1) left more) c.byte_at.ensures.kept.same_bytes c.in_err-row.ensures.counted_err in
-    on_err c.from_residual-in_err-row.result (IsShort (g.V.Volume.bytes c.args.volume.now) (g.V.Volume.size c.args.volume.now) count)
+    on_err c.from_residual-in_err-row.result (IsCounted (g.V.Volume.bytes c.args.volume.now) (g.V.Volume.size c.args.volume.now) count)
     (short_behind (g.V.Volume.bytes c.args.volume.now) (g.V.Volume.size c.args.volume.now) log c.requires.begins count left more (omega (arith, c.requires.len, c.requires.begins.gate)) part (omega (arith, c.byte_at.ensures.counted)))
 
 pub returns-in_err-push-clause-kept : goal.returns-in_err-push-clause-kept
@@ -50,7 +50,7 @@ returns-in_err-push-clause-counted_err g c =
     let count : ℕ = 173 + (rows_size (listed log.groups) + (g.V.Volume.bytes_read c.read_group.new.volume - g.V.Volume.bytes_read c.args.volume.now)) in
     let group = subst (λ b. IsGroupAt b (log.end + 1) left c.last_of-last.result c.in_ok-row.row) c.byte_at.ensures.kept.same_bytes c.in_ok-row.ensures.group in
     let part = part_of_group (g.V.Volume.bytes c.args.volume.now) (log.end + 1) left more c.last_of-last.result c.in_ok-row.row group (omega (arith, c.in_ok-row.ensures.counted)) in
-    on_err c.from_residual-in_err-push.result (IsShort (g.V.Volume.bytes c.args.volume.now) (g.V.Volume.size c.args.volume.now) count)
+    on_err c.from_residual-in_err-push.result (IsCounted (g.V.Volume.bytes c.args.volume.now) (g.V.Volume.size c.args.volume.now) count)
     (short_behind (g.V.Volume.bytes c.args.volume.now) (g.V.Volume.size c.args.volume.now) log c.requires.begins count left more (omega (arith, c.requires.len, c.requires.begins.gate)) part (omega (arith, c.byte_at.ensures.counted)))
 
 pub returns-clause-begins : goal.returns-clause-begins
