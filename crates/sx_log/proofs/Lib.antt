@@ -2,3 +2,9 @@ pub mod Placed
 pub mod Parts
 pub mod Finding
 pub mod Made
+pub mod Ruled
+pub mod OpenedGroups
+pub mod GroupRead
+pub mod Names
+pub mod Opened
+pub mod Given

@@ -2,3 +2,5 @@ pub mod Room
 pub mod Calls
 pub mod Finding
 pub mod Creating
+pub mod Kept
+pub mod Opening

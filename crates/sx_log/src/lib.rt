@@ -6,9 +6,14 @@ mod birth;
 mod creation;
 mod fault;
 mod limits;
+mod log;
+mod opening;
 mod reading;
+mod rules;
 
 pub use birth::Birth;
 pub use creation::create;
 pub use fault::{LogFault, RoomFault};
 pub use limits::room;
+pub use log::{GroupRow, Groups, Log};
+pub use opening::open;
