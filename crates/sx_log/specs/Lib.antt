@@ -3,3 +3,4 @@ pub mod Calls
 pub mod Finding
 pub mod Creating
 pub mod Kept
+pub mod Committing

@@ -3,13 +3,16 @@
 #![tactic(auto)]
 
 mod birth;
+mod commit;
 mod creation;
 mod fault;
 mod limits;
 mod log;
 mod reading;
+mod table;
 
 pub use birth::Birth;
+pub use commit::{hold, seal_group, stage};
 pub use creation::create;
 pub use fault::{LogFault, RoomFault};
 pub use limits::room;
