@@ -1,7 +1,6 @@
 //! Volumes are made: what the calls leave, and which volumes are unborn.
 ghost use Rattle.std.specs.Prelude.{IfOk};
-ghost use Rattle.sx_log.specs.Creating.{CanBeBorn};
-ghost use Rattle.sx_log.specs.Shown.{birth_of};
+ghost use Rattle.sx_log.specs.Creating.{CanBeBorn, birth_of};
 
 use sha2::{Digest, Sha256};
 use std::alloc::{AllocError, Global};
