@@ -20,6 +20,18 @@ pub struct Groups {
     pub(crate) rows: Vec<GroupRow>,
 }
 
+impl Groups {
+    ghost use Rattle.std.specs.Prelude.{◌≡◌};
+    ghost use Rattle.sx_log.specs.Kept.{listed};
+
+    /// The groups.
+    pub fn as_slice(&self) -> &[GroupRow]
+        ensures { result.now ≡ listed self.now }
+    {
+        self.rows.as_slice()
+    }
+}
+
 /// The group that comes next: none, or one that the volume holds, or one that stands behind the closed gate.
 #[derive(Drop)]
 pub(crate) enum Pending {
