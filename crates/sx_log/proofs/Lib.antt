@@ -6,3 +6,9 @@ pub mod Grown
 pub mod Behind
 pub mod Committed
 pub mod Rows
+pub mod Ruled
+pub mod OpenedGroups
+pub mod GroupRead
+pub mod Names
+pub mod Opened
+pub mod Given

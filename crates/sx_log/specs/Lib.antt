@@ -4,3 +4,4 @@ pub mod Finding
 pub mod Creating
 pub mod Kept
 pub mod Committing
+pub mod Opening

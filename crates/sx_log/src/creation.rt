@@ -246,7 +246,9 @@ pub(crate) fn begin<V: Volume>(alloc: Global, volume: &mut V, calls: u32) -> Res
     ensures calm { OnOk result (IsTrue (V.calm volume.new)) }
     ensures same_bytes { OnOk result (V.bytes volume.new ≡ V.bytes volume.old) }
     ensures same_size { V.size volume.new ≡ V.size volume.old }
+    ensures same_held { V.held volume.new ≡ V.held volume.old }
     ensures same_read { V.bytes_read volume.new ≡ V.bytes_read volume.old }
+    ensures nothing_done { IsErrOf result LogFault.OutOfMemory → V.bytes volume.new ≡ V.bytes volume.old }
     ensures spare { OnOk result (calls ≤ V.spare volume.new + 1) }
     ensures fault { IfErr result IsOther }
     ensures synced { OnOk result (IfSome (V.bytes volume.old) (λ _. Syncs (V.moment volume.old) (V.moment volume.new) (V.synced volume.old) (V.synced volume.new))) }

@@ -8,7 +8,9 @@ mod creation;
 mod fault;
 mod limits;
 mod log;
+mod opening;
 mod reading;
+mod rules;
 mod table;
 
 pub use birth::Birth;
@@ -17,3 +19,4 @@ pub use creation::create;
 pub use fault::{LogFault, RoomFault};
 pub use limits::room;
 pub use log::{GroupRow, Groups, Log};
+pub use opening::open;

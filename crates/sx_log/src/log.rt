@@ -1,4 +1,7 @@
 //! What is kept in memory of a volume's log.
+ghost use Rattle.std.specs.Prelude.{◌≡◌};
+ghost use Rattle.sx_log.specs.Kept.{listed};
+
 use crate::Birth;
 use sx_frame::FrameList;
 use sx_root::RevisionRoot;
@@ -20,18 +23,6 @@ pub struct Groups {
     pub(crate) rows: Vec<GroupRow>,
 }
 
-impl Groups {
-    ghost use Rattle.std.specs.Prelude.{◌≡◌};
-    ghost use Rattle.sx_log.specs.Kept.{listed};
-
-    /// The groups.
-    pub fn as_slice(&self) -> &[GroupRow]
-        ensures { result.now ≡ listed self.now }
-    {
-        self.rows.as_slice()
-    }
-}
-
 /// The group that comes next: none, or one that the volume holds, or one that stands behind the closed gate.
 #[derive(Drop)]
 pub(crate) enum Pending {
@@ -48,4 +39,13 @@ pub struct Log {
     /// The place of the closed gate, in bytes from the start of the volume.
     pub end: u64,
     pub(crate) pending: Pending,
+}
+
+impl Groups {
+    /// The groups, one a revision from 1 on.
+    pub fn as_slice(&self) -> &[GroupRow]
+        ensures { result.now ≡ listed self.now }
+    {
+        self.rows.as_slice()
+    }
 }

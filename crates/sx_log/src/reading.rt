@@ -104,7 +104,7 @@ fn given_fields(part: &[u8]) -> Option<GivenFields>
     })
 }
 
-// The next N bytes.
+/// The next N bytes.
 pub(crate) fn chunk<const N: usize>(fields: &mut Fields) -> Option<[u8; N]>
     ensures enough { IsSome result ↔ (N ≤ length fields.old) }
     ensures written { IfSome result (λ piece. (fields.old ≡ piece ++ fields.new) × (length piece ≡ N)) }
