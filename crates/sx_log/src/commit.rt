@@ -1,25 +1,28 @@
 //! A commit in three calls: the group is held, is put behind the closed gate, and then the gate is opened.
-ghost use Rattle.std.specs.Prelude.{ℕ, ◌≡◌, ◌+◌, ◌<◌, ◌≤◌, ◌⊎◌, ◌++◌, [], ◌∷◌, List, Some, IfSome, IsTrue, OnErr, OnOk, length, slice_set, take};
+ghost use Rattle.std.specs.Prelude.{ℕ, ◌≡◌, ◌+◌, ◌<◌, ◌≤◌, ◌⊎◌, ◌++◌, [], ◌∷◌, List, Some, IfOk, IfSome, IsTrue, OnErr, OnOk, length, slice_set, take};
 ghost use Rattle.std.specs.Arc.{arc_value};
 ghost use Rattle.std.specs.Option.{option_map};
 ghost use Rattle.sx_layout.specs.Born.{HasLog};
-ghost use Rattle.sx_layout.specs.FrameGroup.{FrameGroup};
+ghost use Rattle.sx_layout.specs.FrameGroup.{FrameGroup, IsFrameGroup};
 ghost use Rattle.sx_log.specs.Calls.{GoesOn, IsSettled};
-ghost use Rattle.sx_log.specs.Committing.{HasStaged, HoldsNext, IsBehind, IsNext, KeepsLog, OnlyHolds, SameLog, SameNext, with_sealed, with_staged};
+ghost use Rattle.sx_log.specs.Committing.{HasStaged, HoldsNext, IsBehind, IsNext, KeepsLog, OnlyHolds, SameLog, SameNext, sealed_bytes, with_sealed, with_staged};
 ghost use Rattle.sx_log.specs.Creating.{birth_of};
 ghost use Rattle.sx_log.specs.Kept.{listed, row_at};
 ghost use Rattle.sx_outside.specs.Faults.{Rose};
 ghost use Rattle.sx_volume.specs.Held.{IsHeldFor, held_piece};
 ghost use Rattle.sx_volume.specs.Images.{Follows, NoSync, Only, Puts, Syncs};
 
-use crate::Log;
 use crate::log::Pending;
+use crate::opening::{ROW_BYTES, read_table};
 use crate::reading::OPEN;
-use crate::table::read_row;
+use crate::rules::DIGEST_BYTES;
+use crate::{GroupRow, Log};
 use std::alloc::{AllocError, Global};
 use std::mem;
 use std::sync::Arc;
+use sx_bytes::Fields;
 use sx_outside::Failed;
+use sx_root::RevisionRoot;
 use sx_volume::Volume;
 
 /// Takes the memory for one more group: room for its row, five calls of the volume, and the piece that the volume holds for
@@ -114,6 +117,20 @@ pub fn seal_group<V: Volume>(log: &mut Log, volume: &mut V) -> Result<(), Failed
     log.groups.rows.push_reserved(row);
     log.end = volume.len() - 1;
     Ok(())
+}
+
+// What is kept of the group that these bytes are, with the closed gate behind it, where it begins at this place.
+fn read_row(alloc: Global, place: u64, bytes: &[u8]) -> Result<GroupRow, AllocError>
+    requires { (group : FrameGroup) × IsFrameGroup group × (bytes.now ≡ sealed_bytes group) }
+    ensures { IfOk result (λ row. (group : FrameGroup) → IsFrameGroup group → bytes.now ≡ sealed_bytes group → row ≡ row_at place group) }
+{
+    let mut fields = Fields::new(bytes);
+    let Some(root) = RevisionRoot::read(&mut fields) else {
+        unreachable!("a group begins with a head");
+    };
+    let count = ROW_BYTES * root.frames as usize + DIGEST_BYTES;
+    let table = read_table(alloc, &fields.rest()[..count], root.frames)?;
+    Ok(GroupRow { root, place, table })
 }
 
 // Makes five calls ready, and has the volume hold the piece for this place.

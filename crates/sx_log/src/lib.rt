@@ -11,7 +11,6 @@ mod log;
 mod opening;
 mod reading;
 mod rules;
-mod table;
 
 pub use birth::Birth;
 pub use commit::{hold, seal_group, stage};
