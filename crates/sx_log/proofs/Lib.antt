@@ -2,6 +2,10 @@ pub mod Placed
 pub mod Parts
 pub mod Finding
 pub mod Made
+pub mod Grown
+pub mod Behind
+pub mod Committed
+pub mod Rows
 pub mod Ruled
 pub mod OpenedGroups
 pub mod GroupRead

@@ -3,6 +3,7 @@
 #![tactic(auto)]
 
 mod birth;
+mod commit;
 mod creation;
 mod fault;
 mod limits;
@@ -12,6 +13,7 @@ mod reading;
 mod rules;
 
 pub use birth::Birth;
+pub use commit::{hold, seal_group, stage};
 pub use creation::create;
 pub use fault::{LogFault, RoomFault};
 pub use limits::room;

@@ -35,7 +35,7 @@ use sx_volume::Volume;
 const MARK: u64 = 0x5358_4752;
 
 /// Bytes of a row of a table.
-const ROW_BYTES: usize = 36;
+pub(crate) const ROW_BYTES: usize = 36;
 
 /// The root of revision 0, which is not stored.
 const FIRST_ROOT: RevisionRoot = RevisionRoot {
@@ -302,8 +302,8 @@ fn read_behind<V: Volume>(
     Ok(bytes)
 }
 
-// The table of so many frames at the front of the bytes, behind which a digest stands.
-fn read_table(alloc: Global, bytes: &[u8], frames: u32) -> Result<FrameList, AllocError>
+/// The table of so many frames at the front of the bytes, behind which a digest stands.
+pub(crate) fn read_table(alloc: Global, bytes: &[u8], frames: u32) -> Result<FrameList, AllocError>
     requires { length bytes.now ≡ 36 * frames + 32 }
     ensures written { IfOk result (λ table. (rest : List ℕ) × (bytes.now ≡ table_bytes table ++ rest)) }
     ensures rows { IfOk result AreRows }

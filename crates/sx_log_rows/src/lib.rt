@@ -4,6 +4,8 @@
 #[cfg(test)]
 mod births;
 #[cfg(test)]
+mod commits;
+#[cfg(test)]
 mod frames;
 #[cfg(test)]
 mod rooms;
