@@ -1,13 +1,11 @@
 #!/usr/bin/env python3
 """Makes the records of documents by the definition alone: their links, counts, hashes, and their bytes.
 
-`edit_records.py deep` writes the records of a scalar in ten nested arrays, in hexadecimal, a line each, by their numbers.
-`edit_records.py tables` writes the tables of `crates/sx_edit_rows/src/tables.rt`, but for their layout.
+It writes the tables of `crates/sx_edit_rows/src/tables.rt`, but for their layout.
 """
 
 import hashlib
 import struct
-import sys
 
 KINDS = ["Document", "Object", "Array", "Key", "Str", "Number", "Bool", "Null"]
 NONE = 0xFFFFFFFF
@@ -88,13 +86,6 @@ def members(at):
     return document(Node(1, "Object", b"", [*root.children[:at], key, *root.children[at:]]))
 
 
-def deep(depth):
-    node = number(depth + 1, "1")
-    for place in range(depth, 0, -1):
-        node = Node(place, "Array", b"", [node])
-    return document(node)
-
-
 TABLES = {
     "FIELDS": fields(),
     "SCALAR": fields(scalar=("Str", b"x")),
@@ -123,12 +114,9 @@ TABLES = {
     "LOADED": document(Node(3, "Object", b"", [Node(4, "Key", b"a", [number(5, "1")])])),
 }
 
-if sys.argv[1:] == ["deep"]:
-    print("\n".join(data.hex() for _, data in records(deep(10))))
-else:
-    for name, root in TABLES.items():
-        rows = list(records(root))
-        print(f"pub(crate) const {name}: [(u32, &[u8]); {len(rows)}] = [")
-        for place, data in rows:
-            print(f'    ({place}, b"{"".join(chr(92) + f"x{byte:02x}" for byte in data)}"),')
-        print("];\n")
+for name, root in TABLES.items():
+    rows = list(records(root))
+    print(f"pub(crate) const {name}: [(u32, &[u8]); {len(rows)}] = [")
+    for place, data in rows:
+        print(f'    ({place}, b"{"".join(chr(92) + f"x{byte:02x}" for byte in data)}"),')
+    print("];\n")

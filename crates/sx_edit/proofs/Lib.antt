@@ -26,4 +26,4 @@ pub mod Refusing
 pub mod Replacing
 pub mod Placing
 pub mod Inserting
-pub mod LoadingOver
+pub mod DocumentChild

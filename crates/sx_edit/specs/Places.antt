@@ -47,7 +47,8 @@ IsPlace place next o target = (state : State) → AreOf state next o → IsPlace
 
 -- Each insert there is answered by this fault.
 unfoldable pub IsNoPlace : Place → ℕ → Option (RecordMap NodeRecord) → EditFault → Type 0
-IsNoPlace place next o fault = (name : Option (List ℕ)) (value : Value) (after : Option (RecordMap NodeRecord)) → AnswersEach (insert place name value) next o after (Err fault)
+IsNoPlace place next o fault =
+    (name : Option (List ℕ)) (value : Value) (after : Option (RecordMap NodeRecord)) → AnswersEach (insert place name value) next o after (Err fault)
 
 -- A value under this name comes among the children, where none has the name, and the document has no child.
 unfoldable pub ChecksChildren : {T : Type 0} → ℕ → Target → Option (List ℕ) → Option (RecordMap NodeRecord) → Result T EditFault → Type 0

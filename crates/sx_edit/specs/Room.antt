@@ -33,7 +33,8 @@ levels_in (n ∷ ns) = levels n.kind + levels_in ns
 unfoldable pub CountsLevels : Option ℕ → ℕ → Option (RecordMap NodeRecord) → Option ℕ → Type 0
 CountsLevels node limit o answer =
     (local : Kind → List ℕ → ℕ) (number : List Step → ℕ) (frames : List Frame) (shown : Shown) (hole : List (ℕ × NodeRow))
-    → AreNew frames → above frames ≡ node → length frames ≤ limit → Holds o (whole local number frames shown hole) → answer ≡ Some (levels_in (nodes_of frames))
+    → AreNew frames → above frames ≡ node → length frames ≤ limit → Holds o (whole local number frames shown hole)
+    → answer ≡ Some (levels_in (nodes_of frames))
 
 -- A step of an edit goes on where this refusal does not stand, and else answers it.
 abbrev pub Passes : {T : Type 0} → Option EditRefusal → Result T EditFault → Type 0

@@ -85,8 +85,8 @@ fn change<N: RecordsMut<NodeRecord>>(
 /// is not for a node of its kind, or of its place; `NameTaken` where another key of the object has the name; `DocumentFull` where the
 /// document has a child beside which another one would come; `TooDeep` where more than 256 arrays and objects would nest;
 /// `NumbersSpent` where new nodes need numbers of 1,073,741,824 and above; `NameMissing` for a member of an object without a name;
-/// `NameUnasked` for a name anywhere else. `Failed` only where the faults of the object below rose; `Damaged` only where the records are
-/// those of no document; `OutOfMemory`. After each error the records are as they were, without a mark.
+/// `NameUnasked` for a name anywhere else. `Failed` only where the faults of the object below rose; `Damaged` where the records are those
+/// of no document, and never over those of one; `OutOfMemory`. After each error the records are as they were, without a mark.
 pub fn apply<N: RecordsMut<NodeRecord>>(
     alloc: Global,
     nodes: &mut N,

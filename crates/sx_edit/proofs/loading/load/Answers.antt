@@ -1,7 +1,7 @@
 use Rattle.sx_tree.specs.Value.{value_of}
 use Rattle.sx_edit.proofs.Going.{goes_itself}
 use Rattle.sx_edit.proofs.Answering.{err-answers, err-explains_edit, untold-no_state}
-use Rattle.sx_edit.proofs.LoadingOver.{load-inserts, load-replaces}
+use Rattle.sx_edit.proofs.DocumentChild.{load-inserts, load-replaces}
 use Rattle.sx_edit.proofs.loading.load.Goals as goal
 
 pub returns-in_err-child-clause-answers : goal.returns-in_err-child-clause-answers
