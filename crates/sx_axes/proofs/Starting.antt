@@ -1,5 +1,5 @@
 -- The axes of a node, from what is told of it.
-use Rattle.std.proofs.Common.{◌≡◌, ℕ, ◌+◌, ◌<◌, ◌≤◌, true, false, List, [], ◌∷◌, ◌++◌, length, reverse, Option, Some, None, refl, sym, ap, subst, ◌∙◌, append_assoc, append-nil, length-append, inl, inr, arith}
+use Rattle.std.proofs.Common.{◌≡◌, ℕ, ◌+◌, ◌<◌, ◌≤◌, true, List, [], ◌∷◌, ◌++◌, length, reverse, Option, Some, None, refl, sym, ap, subst, ◌∙◌, append_assoc, append-nil, length-append, inl, inr, arith}
 use Rattle.std.specs.FinMap as fin
 use Rattle.std.specs.Option.{option_or}
 use Rattle.std.specs.Prelude.{IfSome, option_map}
@@ -16,6 +16,7 @@ use Rattle.sx_model.specs.Holes.{Frame, plug, filled}
 use Rattle.sx_model.specs.Records.{NodeRow, first_of, last_of}
 use Rattle.sx_model.specs.Tree.{Node, Forest, no_trees, tree_then, beside, numbers, size, tops, AreDistinctNumbers}
 use Rattle.sx_model.proofs.AxisSpots.{all_above, all_before, node_numbers, no_axis, child-spot, descendant-spot, ancestor-spot, following-spot, preceding-spot, following_sibling-spot, preceding_sibling-spot}
+use Rattle.sx_model.proofs.Holes.{or_none}
 use Rattle.sx_model.proofs.Plugging.{numbers-beside, numbers-plug, numbers_before, numbers_behind}
 use Rattle.sx_model.proofs.Spots.{beside_assoc}
 use Rattle.sx_cursor.specs.Told.{Tells, Shows, row_there}
@@ -36,10 +37,6 @@ last-beside (tree_then m inner rest) n below = ap (λ o. option_or o (Some m.num
 or_last : (a : Option ℕ) (n : ℕ) (b : Option ℕ) → option_or (option_or a (Some n)) b ≡ option_or a (Some n)
 or_last None n b = refl
 or_last (Some k) n b = refl
-
-or_nothing : (a : Option ℕ) → option_or a None ≡ a
-or_nothing None = refl
-or_nothing (Some n) = refl
 
 module _ (local : Kind → List ℕ → ℕ) (number : List Step → ℕ) (m : RecordMap NodeRecord) where
   chain-right : (frames : List Frame) (before trees : Forest) → IsTold local number m frames (beside before trees)
@@ -84,10 +81,6 @@ module _ (local : Kind → List ℕ → ℕ) (number : List Step → ℕ) (m : R
 behind-end : (frames : List Frame) → behind_hole true 0 frames ≡ numbers_behind frames
 behind-end [] = refl
 behind-end (frame ∷ frames) = ap (λ l. numbers frame.behind ++ l) (behind-end frames)
-
-behind-stays : (frames : List Frame) → behind_hole false 0 frames ≡ []
-behind-stays [] = refl
-behind-stays (frame ∷ frames) = refl
 
 before-end : (frames : List Frame) → before_hole 0 frames ≡ all_before frames
 before-end [] = refl
@@ -264,7 +257,7 @@ module _ (local : Kind → List ℕ → ℕ) (number : List Step → ℕ) (m : R
     listed = reverse (node_numbers (tops before));
     are = preceding_sibling-spot frames before n below behind distinct;
     left = (
-      subst (λ next. IsChain (λ w. w.left) m next (reverse (node_numbers (tops before)))) (or_nothing (last_of before) ∙ sym is.left)
+      subst (λ next. IsChain (λ w. w.left) m next (reverse (node_numbers (tops before)))) (or_none (last_of before) ∙ sym is.left)
           (subst (λ l. IsChain (λ w. w.left) m (option_or (last_of before) None) l) (append-nil (reverse (node_numbers (tops before))))
           (chain-left local number m frames no_trees before (tree_then n below behind) [] tells refl)),
       refl,

@@ -211,10 +211,6 @@ read-enter o old k w outer level read there pushed = record {
   linked = λ to is. (w, (there, inl is));
 }
 
-pub read-leaf : (o : Option (RecordMap NodeRecord)) (old : Search) (k : ℕ) (w : NodeRow) → IsRead o old → Tells o k (Some w)
-    → IsRead o (record { outer = old.outer; level = old.level; from = k; next = w.right; left = old.left - 1 })
-read-leaf o old k w read there = record { outer = read.outer; linked = λ to is. (w, (there, inr is)) }
-
 pub read-leave : (o : Option (RecordMap NodeRecord)) (old : Search) (outer : Vec Up) (up : Up) → IsRead o old → old.outer.items ≡ outer.items ++ up ∷ []
     → IsRead o (record { outer = outer; level = up.level; from = up.number; next = up.right; left = old.left })
 read-leave o old outer up read popped =
