@@ -6,6 +6,8 @@ mod births;
 #[cfg(test)]
 mod frames;
 #[cfg(test)]
+mod openings;
+#[cfg(test)]
 mod rooms;
 #[cfg(test)]
 mod roots;
