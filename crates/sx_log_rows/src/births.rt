@@ -2,6 +2,7 @@
 ghost use Rattle.std.specs.Prelude.{IfOk};
 ghost use Rattle.sx_log.specs.Creating.{CanBeBorn, birth_of};
 
+use crate::openings::fault_of;
 use sha2::{Digest, Sha256};
 use std::alloc::{AllocError, Global};
 use std::test::Fail;
@@ -17,19 +18,19 @@ const DIGEST: [u8; 32] = [
 
 /// A birth part that may break a rule, under the digest that it ought to have.
 #[derive(Clone, Copy)]
-struct Part<'a> {
-    format: u8,
-    window: u8,
-    from_length: u8,
-    from: &'a [u8],
-    to_length: u8,
-    to: &'a [u8],
+pub(crate) struct Part<'a> {
+    pub(crate) format: u8,
+    pub(crate) window: u8,
+    pub(crate) from_length: u8,
+    pub(crate) from: &'a [u8],
+    pub(crate) to_length: u8,
+    pub(crate) to: &'a [u8],
     /// What stands behind the names.
-    filler: u8,
+    pub(crate) filler: u8,
 }
 
 /// The birth part of the defaults.
-const DEFAULT: Part<'static> = Part {
+pub(crate) const DEFAULT: Part<'static> = Part {
     format: 1,
     window: 3,
     from_length: 9,
@@ -40,7 +41,7 @@ const DEFAULT: Part<'static> = Part {
 };
 
 // The birth of the defaults.
-fn default_birth(alloc: Global) -> Result<Birth, Fail>
+pub(crate) fn default_birth(alloc: Global) -> Result<Birth, Fail>
     ensures { IfOk result (λ birth. CanBeBorn (birth_of birth)) }
 {
     Ok(Birth {
@@ -51,7 +52,7 @@ fn default_birth(alloc: Global) -> Result<Birth, Fail>
 }
 
 // The bytes of a volume: this first byte, the part, and these bytes behind it.
-fn volume_bytes(
+pub(crate) fn volume_bytes(
     alloc: Global,
     first: u8,
     part: Part,
@@ -255,6 +256,13 @@ fn unborn_and_not_ours(rt: HostRuntime) -> Result<(), Fail> {
     for (first, part, behind, answer) in table {
         let bytes = volume_bytes(alloc, first, part, behind)?;
         assert_eq!(rt; made_over(alloc, &bytes)?, answer);
+        let opened = match answer {
+            Ok(()) => LogFault::Unborn,
+            Err(fault) => fault,
+        };
+        if opened != LogFault::Born {
+            assert_eq!(rt; fault_of(alloc, &bytes)?, Some(opened));
+        }
     }
     Ok(())
 }

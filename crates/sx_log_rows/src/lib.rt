@@ -8,6 +8,8 @@ mod commits;
 #[cfg(test)]
 mod frames;
 #[cfg(test)]
+mod openings;
+#[cfg(test)]
 mod rooms;
 #[cfg(test)]
 mod roots;
