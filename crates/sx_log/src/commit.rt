@@ -62,7 +62,8 @@ pub fn hold<V: Volume>(
 pub fn stage<V: Volume>(log: &mut Log, volume: &mut V) -> Result<(), Failed>
     requires held { (group : FrameGroup) × HoldsNext V.Volume log.old volume.old group }
     requires gate { log.old.end < V.size volume.old }
-    ensures bytes { OnOk result ((group : FrameGroup) → HoldsNext V.Volume log.old volume.old group → V.bytes volume.new ≡ option_map (with_staged log.old.end group) (V.bytes volume.old)) }
+    ensures bytes { OnOk result ((group : FrameGroup) → HoldsNext V.Volume log.old volume.old group
+        → V.bytes volume.new ≡ option_map (with_staged log.old.end group) (V.bytes volume.old)) }
     ensures staged { OnOk result ((group : FrameGroup) → HoldsNext V.Volume log.old volume.old group → HasStaged V.Volume log.new volume.new group) }
     ensures keeps { OnOk result ((groups : List FrameGroup) → KeepsLog V.Volume log.old volume.old groups → KeepsLog V.Volume log.new volume.new groups) }
     ensures synced { OnOk result (IfSome (V.bytes volume.old) (λ _. Syncs (V.moment volume.old) (V.moment volume.new) (V.synced volume.old) (V.synced volume.new))) }
@@ -90,12 +91,14 @@ pub fn stage<V: Volume>(log: &mut Log, volume: &mut V) -> Result<(), Failed>
 /// Errors: `Failed` where a call of the volume failed, and then the log is not to be used any more.
 pub fn seal_group<V: Volume>(log: &mut Log, volume: &mut V) -> Result<(), Failed>
     requires staged { (group : FrameGroup) × HasStaged V.Volume log.old volume.old group }
-    ensures bytes { OnOk result ((group : FrameGroup) → HasStaged V.Volume log.old volume.old group → V.bytes volume.new ≡ option_map (with_sealed log.old.end group) (V.bytes volume.old)) }
+    ensures bytes { OnOk result ((group : FrameGroup) → HasStaged V.Volume log.old volume.old group
+        → V.bytes volume.new ≡ option_map (with_sealed log.old.end group) (V.bytes volume.old)) }
     ensures settled { OnOk result (IsSettled V.Volume volume.new) }
-    ensures entered { OnOk result ((group : FrameGroup) → HasStaged V.Volume log.old volume.old group → listed log.new.groups ≡ listed log.old.groups ++ row_at (log.old.end + 1) group ∷ []) }
+    ensures entered { OnOk result ((group : FrameGroup) → HasStaged V.Volume log.old volume.old group
+        → listed log.new.groups ≡ listed log.old.groups ++ row_at (log.old.end + 1) group ∷ []) }
     ensures gate { OnOk result (log.new.end + 1 ≡ V.size volume.new) }
-    ensures keeps { OnOk result ((groups : List FrameGroup) (group : FrameGroup) → KeepsLog V.Volume log.old volume.old groups → HasStaged V.Volume log.old volume.old group
-        → KeepsLog V.Volume log.new volume.new (groups ++ group ∷ [])) }
+    ensures keeps { OnOk result ((groups : List FrameGroup) (group : FrameGroup) → KeepsLog V.Volume log.old volume.old groups
+        → HasStaged V.Volume log.old volume.old group → KeepsLog V.Volume log.new volume.new (groups ++ group ∷ [])) }
     ensures synced { OnOk result (IfSome (V.bytes volume.old) (λ _. Syncs (V.moment volume.old) (V.moment volume.new) (V.synced volume.old) (V.synced volume.new))) }
     ensures no_sync { OnErr result (NoSync (V.synced volume.old) (V.synced volume.new)) }
     ensures during { (groups : List FrameGroup) (group : FrameGroup) → KeepsLog V.Volume log.old volume.old groups → HasStaged V.Volume log.old volume.old group
