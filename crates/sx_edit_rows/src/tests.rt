@@ -99,27 +99,38 @@ fn insert(alloc: Global, place: Place, name: Option<&[u8]>, text: &[u8]) -> Resu
     Ok(Edit::Insert { place, name, value })
 }
 
+/// Whether the scalar at node 3 leaves the records of the table.
+fn becomes(
+    alloc: Global,
+    records: &mut MemRecords<NodeRecord>,
+    value: Scalar,
+    table: &[(u32, &[u8])],
+) -> Result<bool, Fail> {
+    let edit = Edit::SetScalar { node: 3, value };
+    if apply(alloc, records, &edit, NEXT) != done() {
+        return Ok(false);
+    }
+    are(alloc, records, table)
+}
+
 #[test]
 fn scalars(rt: HostRuntime) -> Result<(), Fail> {
     let alloc = rt.alloc();
     let mut records = records_of(alloc, &FIELDS)?;
-    let node = 3;
-    let value = Scalar::Str(Text::new(alloc, b"x")?);
-    let letter = Edit::SetScalar { node, value };
-    assert_eq!(rt; apply(alloc, &mut records, &letter, NEXT), done());
-    assert!(rt; are(alloc, &mut records, &SCALAR)?);
-    let value = Scalar::Number(Literal::new(alloc, b"1")?);
-    let one = Edit::SetScalar { node, value };
-    assert_eq!(rt; apply(alloc, &mut records, &one, NEXT), done());
-    assert!(rt; are(alloc, &mut records, &FIELDS)?);
+    let letter = Scalar::Str(Text::new(alloc, b"x")?);
+    assert!(rt; becomes(alloc, &mut records, letter, &SCALAR)?);
+    let one = Scalar::Number(Literal::new(alloc, b"1")?);
+    assert!(rt; becomes(alloc, &mut records, one, &FIELDS)?);
+    Ok(())
+}
+
+#[test]
+fn scalars_refused(rt: HostRuntime) -> Result<(), Fail> {
+    let alloc = rt.alloc();
+    let mut records = records_of(alloc, &FIELDS)?;
+    let kind = Kind::Array;
     let refusals = [
-        (
-            5,
-            EditRefusal::WrongKind {
-                node: 5,
-                kind: Kind::Array,
-            },
-        ),
+        (5, EditRefusal::WrongKind { node: 5, kind }),
         (9, EditRefusal::NoNode { node: 9 }),
     ];
     for (node, refusal) in refusals {
@@ -287,35 +298,42 @@ fn removals(rt: HostRuntime) -> Result<(), Fail> {
     Ok(())
 }
 
+/// What is told of another name of the node.
+fn renamed(
+    alloc: Global,
+    records: &mut MemRecords<NodeRecord>,
+    node: u32,
+    name: &[u8],
+) -> Result<Result<Edited, EditFault>, Fail> {
+    let name = Text::new(alloc, name)?;
+    Ok(apply(alloc, records, &Edit::Rename { node, name }, NEXT))
+}
+
 #[test]
 fn names(rt: HostRuntime) -> Result<(), Fail> {
     let alloc = rt.alloc();
     let mut records = records_of(alloc, &FIELDS)?;
-    let name = Text::new(alloc, b"b")?;
-    let own = Edit::Rename { node: 4, name };
-    assert_eq!(rt; apply(alloc, &mut records, &own, NEXT), done());
+    assert_eq!(rt; renamed(alloc, &mut records, 4, b"b")?, done());
     assert!(rt; are(alloc, &mut records, &FIELDS)?);
+    assert_eq!(rt; renamed(alloc, &mut records, 2, b"c")?, done());
+    assert!(rt; are(alloc, &mut records, &NAMED)?);
+    Ok(())
+}
+
+#[test]
+fn names_refused(rt: HostRuntime) -> Result<(), Fail> {
+    let alloc = rt.alloc();
+    let mut records = records_of(alloc, &FIELDS)?;
+    let kind = Kind::Array;
     let refusals = [
         (2, EditRefusal::NameTaken { node: 4 }),
-        (
-            5,
-            EditRefusal::WrongKind {
-                node: 5,
-                kind: Kind::Array,
-            },
-        ),
+        (5, EditRefusal::WrongKind { node: 5, kind }),
         (9, EditRefusal::NoNode { node: 9 }),
     ];
     for (node, refusal) in refusals {
-        let name = Text::new(alloc, b"b")?;
-        let edit = Edit::Rename { node, name };
-        assert_eq!(rt; apply(alloc, &mut records, &edit, NEXT), refused(refusal));
+        assert_eq!(rt; renamed(alloc, &mut records, node, b"b")?, refused(refusal));
     }
     assert!(rt; are(alloc, &mut records, &FIELDS)?);
-    let name = Text::new(alloc, b"c")?;
-    let edit = Edit::Rename { node: 2, name };
-    assert_eq!(rt; apply(alloc, &mut records, &edit, NEXT), done());
-    assert!(rt; are(alloc, &mut records, &NAMED)?);
     Ok(())
 }
 
