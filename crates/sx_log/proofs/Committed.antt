@@ -9,7 +9,8 @@ use Rattle.sx_layout.specs.FrameGroup.{FrameGroup, first_root, frame_group_bytes
 use Rattle.sx_layout.specs.Rule.{first_broken}
 use Rattle.sx_layout.specs.Rules.{order_rules}
 use Rattle.sx_log.proofs.Finding.{all_told, if_told}
-use Rattle.sx_log.proofs.Grown.{behind, follow-append, groups_size-append, opened, puts, root_behind-rows, rows_from-append, with_staged_group}
+use Rattle.sx_log.proofs.Grown.{behind, opened, puts, with_staged_group}
+use Rattle.sx_log.proofs.OpenedGroups.{follow-append, groups_size-append, same_root, rows_from-append}
 use Rattle.sx_log.proofs.Made.{read_images, step_images}
 use Rattle.sx_log.specs.Calls.{IsSettled}
 use Rattle.sx_log.specs.Committing.{HasStaged, HoldsNext, IsBehind, KeepsLog, OnlyHolds, SameLog, sealed_bytes, with_sealed, with_staged}
@@ -110,7 +111,7 @@ module _ {V Spot End : Type 0} (g : Ghosts V Spot End) (log new_log : Log) (volu
 
     module _ (group : FrameGroup) (staged : HasStaged g log volume group) where
       order : first_broken (order_rules (last_root first_root groups) group.root) ≡ None
-      order = subst (λ (r : RevisionRoot). first_broken (order_rules r group.root) ≡ None) (ap (λ (rows : List GroupRow). root_behind first_root rows) keeps.is_log.rows ∙ root_behind-rows first_root first_place groups) staged.follows
+      order = subst (λ (r : RevisionRoot). first_broken (order_rules r group.root) ≡ None) (ap (λ (rows : List GroupRow). root_behind first_root rows) keeps.is_log.rows ∙ same_root first_root first_place groups) staged.follows
 
       -- each byte that is put on the gate
       each : (P : ℕ → List ℕ → Type 0)

@@ -1,45 +1,17 @@
 -- A group that comes behind the gate that ends a list of groups.
-use Rattle.std.proofs.Common.{◌≡◌, ◌∙◌, ◌⊎◌, inl, inr, ℕ, ◌+◌, ◌<◌, List, [], ◌∷◌, ◌++◌, length, take, drop, slice_set, None, refl, ap, sym, arith, add-zero, length-append, append_assoc, take-append-drop}
+use Rattle.std.proofs.Common.{◌≡◌, ◌∙◌, ◌⊎◌, inl, inr, ℕ, ◌+◌, ◌<◌, List, [], ◌∷◌, ◌++◌, length, take, drop, slice_set, None, refl, ap, sym, arith, length-append, append_assoc, take-append-drop}
 use Rattle.std.proofs.Math.Seq.{set-append_seam}
 use Rattle.std.proofs.lemmas.Bool.{cases_eq}
-use Rattle.std.proofs.lemmas.List.{append-nil, take_at, set-set}
+use Rattle.std.proofs.lemmas.List.{take_at, set-set}
 use Rattle.sx_layout.proofs.Births.{length-birth_part}
-use Rattle.sx_layout.proofs.FrameGroups.{length-group}
 use Rattle.sx_layout.specs.Birth.{Birth, IsBirth, birth_part}
 use Rattle.sx_layout.specs.Born.{HasLog}
-use Rattle.sx_layout.specs.FrameGroup.{FrameGroup, IsFrameGroup, behind_gates, first_root, frame_group_bytes, gate_behind, group_size, groups_size, last_root}
+use Rattle.sx_layout.specs.FrameGroup.{FrameGroup, IsFrameGroup, behind_gates, first_root, gate_behind, last_root}
 use Rattle.sx_layout.specs.Rule.{first_broken}
 use Rattle.sx_layout.specs.Rules.{Follow, order_rules}
 use Rattle.sx_log.specs.Committing.{IsBehind, sealed_bytes, with_staged}
-use Rattle.sx_log.specs.Kept.{root_behind, row_at, rows_from}
-use Rattle.sx_log.specs.declared.log.GroupRow.{GroupRow}
-use Rattle.sx_root.specs.declared.root.RevisionRoot.{RevisionRoot}
+use Rattle.sx_log.proofs.OpenedGroups.{behind_gates-append, follow-append, length-behind_gates}
 use Rattle.sx_volume.specs.Images.{Puts}
-
-length-behind_gates : (last : RevisionRoot) (groups : List FrameGroup) → Follow last groups → length (behind_gates groups) ≡ groups_size groups
-length-behind_gates last [] follow = refl
-length-behind_gates last (group ∷ groups) follow =
-    let rest = length-behind_gates group.root groups follow.2 in
-    omega (arith, rest, length-group group follow.0, length-append (frame_group_bytes group) (behind_gates groups))
-
-pub groups_size-append : (groups : List FrameGroup) (group : FrameGroup) → groups_size (groups ++ group ∷ []) ≡ groups_size groups + group_size group.root.frames group.root.body
-groups_size-append [] group = omega arith
-groups_size-append (first ∷ groups) group = let rest = groups_size-append groups group in omega arith
-
-pub follow-append : (last : RevisionRoot) (groups : List FrameGroup) (group : FrameGroup) → Follow last groups → IsFrameGroup group → first_broken (order_rules (last_root last groups) group.root) ≡ None → Follow last (groups ++ group ∷ [])
-follow-append last [] group follow is keeps = (is, keeps, tt)
-follow-append last (first ∷ groups) group follow is keeps = (follow.0, follow.1, follow-append first.root groups group follow.2 is keeps)
-
-pub rows_from-append : (place : ℕ) (groups : List FrameGroup) (group : FrameGroup) → rows_from place (groups ++ group ∷ []) ≡ rows_from place groups ++ row_at (place + groups_size groups) group ∷ []
-rows_from-append place [] group = ap (λ n. row_at n group ∷ []) (sym (add-zero place))
-rows_from-append place (first ∷ groups) group =
-    let size = group_size first.root.frames first.root.body in
-    let same : place + size + groups_size groups ≡ place + (size + groups_size groups) = omega arith in
-    ap (λ (rows : List GroupRow). row_at place first ∷ rows) (rows_from-append (place + size) groups group ∙ ap (λ n. rows_from (place + size) groups ++ row_at n group ∷ []) same)
-
-pub root_behind-rows : (root : RevisionRoot) (place : ℕ) (groups : List FrameGroup) → root_behind root (rows_from place groups) ≡ last_root root groups
-root_behind-rows root place [] = refl
-root_behind-rows root place (group ∷ groups) = root_behind-rows group.root (place + group_size group.root.frames group.root.body) groups
 
 -- the bytes up to the gate that ends the groups
 abbrev front_of : Birth → List FrameGroup → List ℕ
@@ -50,15 +22,6 @@ length-front birth groups is follow = omega (arith, length-append (birth_part bi
 
 front_then : (birth : Birth) (groups : List FrameGroup) (rest : List ℕ) → 1 ∷ (birth_part birth ++ (behind_gates groups ++ rest)) ≡ front_of birth groups ++ rest
 front_then birth groups rest = ap (λ (b : List ℕ). 1 ∷ b) (sym (append_assoc (birth_part birth) (behind_gates groups) rest))
-
--- one more group stands behind its open gate
-behind_gates-append : (groups : List FrameGroup) (group : FrameGroup) (rest : List ℕ) → behind_gates (groups ++ group ∷ []) ++ rest ≡ behind_gates groups ++ 1 ∷ (frame_group_bytes group ++ rest)
-behind_gates-append [] group rest = ap (λ (b : List ℕ). 1 ∷ (b ++ rest)) (append-nil (frame_group_bytes group))
-behind_gates-append (first ∷ groups) group rest =
-    ap (λ (b : List ℕ). 1 ∷ b)
-    (append_assoc (frame_group_bytes first) (behind_gates (groups ++ group ∷ [])) rest
-    ∙ ap (λ (b : List ℕ). frame_group_bytes first ++ b) (behind_gates-append groups group rest)
-    ∙ sym (append_assoc (frame_group_bytes first) (behind_gates groups) (1 ∷ (frame_group_bytes group ++ rest))))
 
 module _ (birth : Birth) (groups : List FrameGroup) (all : List ℕ) (has : HasLog all birth groups) where
   parts : all ≡ front_of birth groups ++ has.gate ∷ has.behind

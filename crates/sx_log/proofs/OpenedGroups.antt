@@ -1,4 +1,4 @@
--- The groups that were read, and their rows.
+-- Groups one behind another, and their rows.
 use Rattle.std.proofs.Common.{◌≡◌, ◌∙◌, ℕ, suc, ◌+◌, ◌*◌, ◌-◌, List, [], ◌∷◌, ◌++◌, length, None, Some, slice_get, refl, ap, subst, sym, append_assoc, length-append, arith}
 use Rattle.sx_layout.proofs.FrameGroups.{length-group}
 use Rattle.sx_layout.specs.FrameGroup.{FrameGroup, IsFrameGroup, behind_gates, frame_group_bytes, group_size, groups_size, last_root}

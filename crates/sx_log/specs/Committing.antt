@@ -30,7 +30,7 @@ pub record SameLog (old new : Log) : Type 0 where
   pub rows : listed new.groups ≡ listed old.groups
   pub end : new.end ≡ old.end
 
--- no group comes next, or the same as before
+-- what comes next is the same
 abbrev pub SameNext : Log → Log → Type 0
 SameNext old new = new.pending ≡ old.pending
 

@@ -1,6 +1,6 @@
 -- What is kept in memory of groups.
 use Rattle.std.specs.Prelude.{ℕ, ◌≡◌, ◌+◌, ◌*◌, List, [], ◌∷◌}
-use Rattle.sx_layout.specs.FrameGroup.{FrameGroup, first_root, gate_behind, group_size}
+use Rattle.sx_layout.specs.FrameGroup.{FrameGroup, gate_behind, group_size}
 use Rattle.sx_log.specs.declared.log.GroupRow.{GroupRow}
 use Rattle.sx_log.specs.declared.log.Groups.{Groups}
 use Rattle.sx_log.specs.declared.log.Log.{Log}
