@@ -209,7 +209,10 @@ fn four_moments(rt: HostRuntime) -> Result<(), Fail> {
 fn other_fields(rt: HostRuntime) -> Result<(), Fail> {
     let alloc = rt.alloc();
     let mut records = records_of(alloc, &ODD)?;
-    assert_eq!(rt; valid(alloc, &mut records, 1_704_067_200_000, 16)??.as_slice(), [1].as_slice());
+    assert_eq!(rt;
+        valid(alloc, &mut records, 1_704_067_200_000, 16)??.as_slice(),
+        [1].as_slice()
+    );
     let mut nothing = records_of(alloc, &[])?;
     assert_eq!(rt; valid(alloc, &mut nothing, 0, 1)??.len(), 0);
     Ok(())
@@ -219,58 +222,67 @@ fn other_fields(rt: HostRuntime) -> Result<(), Fail> {
 #[test]
 fn no_documents(rt: HostRuntime) -> Result<(), Fail> {
     let alloc = rt.alloc();
-    let mut bare = records_of(alloc, &[
-    Row {
-        number: 0,
-        kind: 0,
-        links: [NONE, NONE, NONE, 1, 1],
-        label: b"",
-    },
-    Row {
-        number: 1,
-        kind: 1,
-        links: [0, NONE, NONE, 2, 2],
-        label: b"",
-    },
-    Row {
-        number: 2,
-        kind: 3,
-        links: [1, NONE, NONE, NONE, NONE],
-        label: b"validTo",
-    },
-])?;
+    let mut bare = records_of(
+        alloc,
+        &[
+            Row {
+                number: 0,
+                kind: 0,
+                links: [NONE, NONE, NONE, 1, 1],
+                label: b"",
+            },
+            Row {
+                number: 1,
+                kind: 1,
+                links: [0, NONE, NONE, 2, 2],
+                label: b"",
+            },
+            Row {
+                number: 2,
+                kind: 3,
+                links: [1, NONE, NONE, NONE, NONE],
+                label: b"validTo",
+            },
+        ],
+    )?;
     let no_value = valid(alloc, &mut bare, 0, 9)?.map(|found| found.len());
     assert_eq!(rt; no_value, Err(Fault::Damaged(misplaced(2, 0))));
-    let mut broken = records_of(alloc, &[
-    Row {
-        number: 0,
-        kind: 0,
-        links: [NONE, NONE, NONE, 1, 1],
-        label: b"",
-    },
-    Row {
-        number: 1,
-        kind: 2,
-        links: [0, NONE, NONE, 2, 2],
-        label: b"",
-    },
-])?;
+    let mut broken = records_of(
+        alloc,
+        &[
+            Row {
+                number: 0,
+                kind: 0,
+                links: [NONE, NONE, NONE, 1, 1],
+                label: b"",
+            },
+            Row {
+                number: 1,
+                kind: 2,
+                links: [0, NONE, NONE, 2, 2],
+                label: b"",
+            },
+        ],
+    )?;
     let link = valid(alloc, &mut broken, 0, 9)?.map(|found| found.len());
     assert_eq!(rt; link, Err(Fault::Damaged(broken_link(1, 2))));
-    let mut round = records_of(alloc, &[
-    Row {
-        number: 0,
-        kind: 0,
-        links: [NONE, NONE, NONE, 1, 1],
-        label: b"",
-    },
-    Row {
-        number: 1,
-        kind: 2,
-        links: [0, NONE, 1, NONE, NONE],
-        label: b"",
-    },
-])?;
+    let mut round = records_of(
+        alloc,
+        &[
+            Row {
+                number: 0,
+                kind: 0,
+                links: [NONE, NONE, NONE, 1, 1],
+                label: b"",
+            },
+            Row {
+                number: 1,
+                kind: 2,
+                links: [0, NONE, 1, NONE, NONE],
+                label: b"",
+            },
+        ],
+    )?;
     let round_walk = valid(alloc, &mut round, 0, 9)?.map(|found| found.len());
     assert_eq!(rt; round_walk, Err(Fault::Damaged(endless(9))));
     Ok(())

@@ -66,7 +66,7 @@ pub left_more : (asked : Asked) (m : RecordMap NodeRecord) (above : Option Kind)
     → AreLeft asked m (reverse links) rest → AreLeft asked m (reverse (links ++ links_of from next)) (rest_of asked trees rest)
 left_more asked m above from (Some k) trees links rest row left =
     subst (λ l. AreLeft asked m l (rest_of asked trees rest)) (sym (reverse_snoc links (record { from = from; to = k }))) (above, (trees, (rest, (row, left, refl))))
-left_more asked m above from None no_trees links rest row left = 
+left_more asked m above from None no_trees links rest row left =
     subst (λ l. AreLeft asked m (reverse l) (rest_of asked no_trees rest)) (sym (append-nil links)) (subst (λ all. AreLeft asked m (reverse links) all) (rest_none asked rest) left)
 left_more asked m above from None (tree_then n below more) links rest row left = absurd (cc row.starts)
 
