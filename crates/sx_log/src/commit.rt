@@ -38,15 +38,12 @@ pub fn hold<V: Volume>(
     group: Arc<Vec<u8>>,
 ) -> Result<(), AllocError>
     requires next { (next : FrameGroup) × IsNext (listed log.old.groups) (arc_value group).items next }
-    requires gate { log.old.end < V.size volume.old }
     ensures held { OnOk result ((next : FrameGroup) → IsNext (listed log.old.groups) (arc_value group).items next → HoldsNext V.Volume log.new volume.new next) }
     ensures nothing_done { OnErr result (SameNext log.old log.new × (V.held volume.new ≡ V.held volume.old)) }
     ensures keeps { (groups : List FrameGroup) → KeepsLog V.Volume log.old volume.old groups → KeepsLog V.Volume log.new volume.new groups }
     ensures same { SameLog log.old log.new }
     ensures only { OnlyHolds V.Volume volume.old volume.new }
 {
-    // The length fits 64 bits, so that the place behind the gate does.
-    let _len = volume.len();
     let place = log.end + 1;
     let row = read_row(alloc, place, group.as_slice())?;
     log.groups.rows.reserve(1)?;

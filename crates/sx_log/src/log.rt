@@ -1,6 +1,5 @@
 //! What is kept in memory of a volume's log.
-ghost use Rattle.std.specs.Prelude.{◌≡◌};
-ghost use Rattle.sx_log.specs.Kept.{listed};
+ghost use Rattle.std.specs.Prelude.{◌+◌, ◌^◌, ◌<◌};
 
 use crate::Birth;
 use sx_frame::FrameList;
@@ -39,9 +38,13 @@ pub struct Log {
     /// The place of the closed gate, in bytes from the start of the volume.
     pub end: u64,
     pub(crate) pending: Pending,
+    ghost end_fits: { end + 1 < 2 ^ 64 },
 }
 
 impl Groups {
+    ghost use Rattle.std.specs.Prelude.{◌≡◌};
+    ghost use Rattle.sx_log.specs.Kept.{listed};
+
     /// The groups, one a revision from 1 on.
     pub fn as_slice(&self) -> &[GroupRow]
         ensures { result.now ≡ listed self.now }
