@@ -1,6 +1,6 @@
 //! The start of a walk.
 ghost use Rattle.std.specs.Prelude.{◌≡◌, ◌+◌, ◌≤◌, IfErr, IfNone, IfOk, IfSome, None};
-ghost use Rattle.sx_cursor.specs.Damage.{IsDamaged};
+ghost use Rattle.sx_cursor.specs.Damage.{IsDamaged, IsOfGet};
 ghost use Rattle.sx_cursor.specs.Told.{Tells};
 ghost use Rattle.sx_axes.specs.Broken.{IsReady};
 ghost use Rattle.sx_axes.specs.Walk.{HasNoAxis, Starts};
@@ -16,8 +16,8 @@ use sx_view::{Fault, Records};
 ///
 /// # Errors
 ///
-/// `Failed` only where a call of the object below failed; `Damaged` only where the records are not told; `OutOfMemory`. A step of
-/// the walk is `Failed` only where the faults of the object below rose; `Damaged` where a link leads to a node that has no
+/// `Failed` only where the faults of the object below rose; `Damaged` only where the records are not told; `OutOfMemory`. A step
+/// of the walk is `Failed` only where the faults of the object below rose; `Damaged` where a link leads to a node that has no
 /// record, or links lead on after `count` visits, and else only where the records are not told; `OutOfMemory`.
 pub fn walk<'a, N: Records<NodeRecord>>(
     alloc: Global,
@@ -33,6 +33,7 @@ pub fn walk<'a, N: Records<NodeRecord>>(
         × N.keeps records.old walk.records.now)) }
     ensures gets { IfOk result (λ found. IfSome found (λ walk. N.gets walk.records.now ≤ N.gets records.old + 1)) }
     ensures absent { IfOk result (λ found. IfNone found (Tells (N.told records.old) node None × HasNoAxis (N.told records.old) axis node)) }
+    ensures fault { IfErr result (IsOfGet N.Records records.old) }
     ensures damaged { IfErr result (λ fault. IsDamaged fault → N.told records.old ≡ None) }
 {
     match records.get(alloc, node)? {

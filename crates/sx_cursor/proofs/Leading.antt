@@ -5,7 +5,6 @@ use Rattle.std.specs.Option.{option_or}
 use Rattle.sx_tree.specs.declared.record.Kind.{Kind}
 use Rattle.sx_tree.specs.declared.record.NodeRecord.{NodeRecord}
 use Rattle.sx_tree.specs.declared.record.Step.{Step}
-use Rattle.sx_bytes.specs.declared.damage.Damage.{Damage}
 use Rattle.sx_view.specs.declared.fault.Fault.{Fault}
 use Rattle.sx_view.specs.declared.fault.Fault.TheVariants.{Failed, Damaged, OutOfMemory}
 use Rattle.sx_view.specs.Records.{RecordMap}
@@ -14,10 +13,10 @@ use Rattle.sx_model.specs.Records.{NodeRow, at_top, first_of, last_of, rows}
 use Rattle.sx_model.specs.Tree.{Node, Forest, no_trees, tree_then, beside}
 use Rattle.sx_model.proofs.Holes.{or_none}
 use Rattle.sx_model.proofs.Spots.{beside_assoc}
-use Rattle.sx_cursor.specs.Cursor.{Place, Stands, BreaksOff, IsNoPlace}
+use Rattle.sx_cursor.specs.Cursor.{Place, BreaksOff, IsNoPlace}
 use Rattle.sx_cursor.specs.Damage.{Explains, IsDamaged}
 use Rattle.sx_cursor.specs.Told.{Tells, Shows, TellsAll, row_there}
-use Rattle.sx_cursor.proofs.Telling.{IsAt, is_at, told, tells-once, some_number}
+use Rattle.sx_cursor.proofs.Telling.{is_at, told, tells-once, some_number}
 
 pub around-left : (frames : List Frame) → (around_hole frames).left ≡ None
 around-left [] = refl

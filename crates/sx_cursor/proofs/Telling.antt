@@ -1,10 +1,6 @@
 -- What records tell of the nodes of trees that they show.
 use Rattle.std.proofs.Common.{◌≡◌, ℕ, Bool, true, false, List, [], ◌∷◌, ◌++◌, map, Option, Some, None, refl, sym, ap, subst, ◌∙◌, append_assoc, arith}
-use Rattle.std.specs.Prelude.{option_map, ◌==◌}
-use Rattle.std.specs.List.{list_any}
-use Rattle.std.specs.Option.{option_or}
 use Rattle.std.specs.Ordering.{nat_cmp}
-use Rattle.std.specs.FinMap as fin
 use Rattle.std.specs.FinMap.{find}
 use Rattle.std.proofs.lemmas.Bool.{false≢true}
 use Rattle.std.proofs.lemmas.Grind.{common_steps}
@@ -12,12 +8,11 @@ use Rattle.sx_tree.specs.declared.record.Kind.{Kind}
 use Rattle.sx_tree.specs.declared.record.NodeRecord.{NodeRecord}
 use Rattle.sx_tree.specs.declared.record.Step.{Step}
 use Rattle.sx_view.specs.Records.{RecordMap}
-use Rattle.sx_view.specs.Rows.{row_of}
-use Rattle.sx_model.specs.Holes.{Frame, Shown, plug, shown, around_hole, rows_before, rows_behind}
-use Rattle.sx_model.specs.Records.{NodeRow, Around, at_top, around_children, first_of, last_of, rows}
+use Rattle.sx_model.specs.Holes.{Frame, plug, shown, around_hole, rows_before, rows_behind}
+use Rattle.sx_model.specs.Records.{NodeRow, Around, at_top, around_children, rows}
 use Rattle.sx_model.specs.Tree.{Node, Forest, no_trees, tree_then, beside, numbers, AreDistinctNumbers, Spot, spot}
 use Rattle.sx_model.proofs.Holes.{rows-beside, rows-plug}
-use Rattle.sx_model.proofs.Spots.{has, has-append, distinct_front, distinct_apart, Found, spot_stands, no_spot}
+use Rattle.sx_model.proofs.Spots.{has, distinct_apart, spot_stands, no_spot}
 use Rattle.sx_cursor.specs.Told.{Tells, Holds, Shows, TellsAll, row_there}
 
 -- ---- entries of lists

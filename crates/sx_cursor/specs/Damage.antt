@@ -1,12 +1,14 @@
 -- The rules that records of nodes keep, and what tells of one that is broken.
-use Rattle.std.specs.Prelude.{ℕ, ◌≡◌, ◌+◌, ◌⊎◌, Option, None, Some}
+use Rattle.std.specs.Prelude.{ℕ, ◌≡◌, ◌+◌, ◌≤◌, ◌⊎◌, Option, None, Some}
 use Rattle.sx_bytes.specs.Damage.{number_damage}
 use Rattle.sx_bytes.specs.declared.damage.Damage.{Damage}
+use Rattle.sx_outside.specs.Faults.{Rose}
 use Rattle.sx_tree.specs.declared.record.Kind.TheVariants.{Key}
 use Rattle.sx_tree.specs.declared.record.NodeRecord.{NodeRecord}
-use Rattle.sx_view.specs.Records.{RecordMap}
+use Rattle.sx_view.specs.Records.{ExplainsFault, RecordMap}
 use Rattle.sx_view.specs.declared.fault.Fault.{Fault}
 use Rattle.sx_view.specs.declared.fault.Fault.TheVariants.{Failed, Damaged, OutOfMemory}
+use Rattle.sx_view.specs.declared.records.Records.{Ghosts}
 use Rattle.sx_model.specs.Records.{NodeRow}
 use Rattle.sx_cursor.specs.declared.damage.TheConstants.{BROKEN_LINK, ENDLESS, MISPLACED}
 use Rattle.sx_cursor.specs.Told.{Tells}
@@ -29,6 +31,14 @@ abbrev pub Explains : {T : Type 0} → Option T → Type 0 → (Damage → Type 
 Explains told rose broken Failed = rose
 Explains told rose broken (Damaged damage) = (told ≡ None) ⊎ broken damage
 Explains told rose broken OutOfMemory = Unit {0}
+
+-- The fault is that of one get of the records, after which they are such: Failed comes only where the faults of the object below rose in it.
+pub record IsOfGet {N : Type 0} (g : Ghosts N NodeRecord) (old : N) (fault : Fault) : Type 0 where
+  pub after : N
+  pub keeps : g.keeps old after
+  pub gets : g.gets after ≤ g.gets old + 1
+  pub never_falls : g.faults old ≤ g.faults after
+  pub cause : ExplainsFault (g.told old) (Rose (g.faults old) (g.faults after)) fault
 
 -- the node linked to has no record
 abbrev pub IsBrokenLink : Option (RecordMap NodeRecord) → ℕ → ℕ → Damage → Type 0

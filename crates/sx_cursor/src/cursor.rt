@@ -4,7 +4,7 @@ ghost use Rattle.sx_outside.specs.Faults.{Rose};
 ghost use Rattle.sx_view.specs.Records.{ExplainsFault};
 ghost use Rattle.sx_view.specs.Rows.{row_of};
 ghost use Rattle.sx_cursor.specs.Cursor.{BreaksOff, IsMoved, IsMovedTo, IsNoPlace, Stands, place_of};
-ghost use Rattle.sx_cursor.specs.Damage.{Explains, IsDamaged};
+ghost use Rattle.sx_cursor.specs.Damage.{Explains, IsDamaged, IsOfGet};
 ghost use Rattle.sx_cursor.specs.Told.{Tells};
 
 use crate::reads::read_linked;
@@ -31,6 +31,7 @@ impl<'a, N: Records<NodeRecord>> Cursor<'a, N> {
         ensures same_records { IfOk result (λ found. IfSome found (λ cursor. (cursor.records.ghost_name ≡ records.entry.ghost_name)
             × N.keeps records.old cursor.records.now)) }
         ensures absent { IfOk result (λ found. IfNone found (Tells (N.told records.old) at None)) }
+        ensures fault { IfErr result (IsOfGet N.Records records.old) }
         ensures damaged { IfErr result (λ fault. IsDamaged fault → N.told records.old ≡ None) }
     {
         match records.get(alloc, at)? {
