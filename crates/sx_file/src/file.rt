@@ -43,6 +43,7 @@ pub trait File {
         ensures answers { IsSome (bytes self.old) → IsOk result }
         ensures same_bytes { bytes self.new ≡ bytes self.old }
         ensures cause { OnErr result (Rose (faults self.old) (faults self.new)) }
+        ensures no_fault { OnOk result (faults self.new ≡ faults self.old) }
         ensures never_falls { faults self.old ≤ faults self.new }
         ensures no_image_more { IsWithin (is_image self.old) (was_image self.new (moment self.old)) }
         ensures no_image_less { IsWithin (is_image self.new) (is_image self.old) }
@@ -55,6 +56,7 @@ pub trait File {
         ensures filled { OnOk result (IfSome (bytes self.old) (λ all. room.new ≡ take (length room.old) (drop at all))) }
         ensures same_bytes { bytes self.new ≡ bytes self.old }
         ensures cause { OnErr result (Rose (faults self.old) (faults self.new)) }
+        ensures no_fault { OnOk result (faults self.new ≡ faults self.old) }
         ensures never_falls { faults self.old ≤ faults self.new }
         ensures no_image_more { IsWithin (is_image self.old) (was_image self.new (moment self.old)) }
         ensures no_image_less { IsWithin (is_image self.new) (is_image self.old) }
@@ -69,6 +71,7 @@ pub trait File {
         ensures written { OnOk result (bytes self.new ≡ option_map (with_piece at piece.now) (bytes self.old)) }
         ensures in_part { OnErr result (IsInPart at (at + length piece.now) (bytes self.old) (bytes self.new)) }
         ensures cause { OnErr result (Rose (faults self.old) (faults self.new)) }
+        ensures no_fault { OnOk result (faults self.new ≡ faults self.old) }
         ensures never_falls { faults self.old ≤ faults self.new }
         ensures images { ForSome (bytes self.old) (λ all. Follows (Writes at (length all) (at + length piece.now)) (is_image self.old) (was_image self.new (moment self.old))) }
         ensures no_sync { NoSync (synced self.old) (synced self.new) }
@@ -80,6 +83,7 @@ pub trait File {
         ensures cut { OnOk result (bytes self.new ≡ option_map (take len) (bytes self.old)) }
         ensures goes_on_telling { IsSome (bytes self.old) → IsSome (bytes self.new) }
         ensures cause { OnErr result (Rose (faults self.old) (faults self.new)) }
+        ensures no_fault { OnOk result (faults self.new ≡ faults self.old) }
         ensures never_falls { faults self.old ≤ faults self.new }
         ensures images { Follows (Cuts len) (is_image self.old) (was_image self.new (moment self.old)) }
         ensures no_sync { NoSync (synced self.old) (synced self.new) }
@@ -89,6 +93,7 @@ pub trait File {
     fn sync(&mut self) -> Result<(), Failed>
         ensures same_bytes { bytes self.new ≡ bytes self.old }
         ensures cause { OnErr result (Rose (faults self.old) (faults self.new)) }
+        ensures no_fault { OnOk result (faults self.new ≡ faults self.old) }
         ensures never_falls { faults self.old ≤ faults self.new }
         ensures durable { OnOk result (IfSome (bytes self.old) (λ all. Only all (is_image self.new))) }
         ensures images { IsWithin (is_image self.old) (was_image self.new (moment self.old)) }

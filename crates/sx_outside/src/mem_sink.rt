@@ -1,4 +1,4 @@
-ghost use Rattle.std.specs.Prelude.{◌≡◌, ◌+◌, ◌<◌, ◌≤◌, ◌↔◌, ◌-◌, ◌⊎◌, [], length, take, min, Option, Some, IsErr, IfOk, OnErr, Contains};
+ghost use Rattle.std.specs.Prelude.{◌≡◌, ◌+◌, ◌<◌, ◌≤◌, ◌↔◌, ◌-◌, ◌⊎◌, [], length, take, min, Option, Some, IsErr, IfOk, OnOk, OnErr, Contains};
 ghost use Rattle.sx_outside.specs.Faults.{Rose};
 ghost use Rattle.sx_outside.specs.Memory.{after_kept, after_refused};
 ghost use Rattle.sx_outside.specs.Transfer.{Gains, Stays};
@@ -78,6 +78,7 @@ impl Sink for MemSink {
         ensures put { IfOk result (λ n. Gains (Some self.old.written) (take n piece.now) (Some self.new.written)) }
         ensures nothing_written { OnErr result (Stays (Some self.old.written) (Some self.new.written)) }
         ensures cause { OnErr result (Rose self.old.faults self.new.faults) }
+        ensures no_fault { OnOk result (self.new.faults ≡ self.old.faults) }
         ensures never_falls { self.old.faults ≤ self.new.faults }
 
         ensures fails { IsErr result ↔ (Contains self.old.failing (self.old.calls + 1) ⊎ (length self.old.written ≡ self.old.room)) }

@@ -1,4 +1,4 @@
-ghost use Rattle.std.specs.Prelude.{◌≡◌, ◌+◌, ◌<◌, ◌≤◌, ◌↔◌, length, take, drop, min, Option, Some, IsErr, IfOk, OnErr, Contains, vec_items};
+ghost use Rattle.std.specs.Prelude.{◌≡◌, ◌+◌, ◌<◌, ◌≤◌, ◌↔◌, length, take, drop, min, Option, Some, IsErr, IfOk, OnOk, OnErr, Contains, vec_items};
 ghost use Rattle.sx_outside.specs.Faults.{Rose};
 ghost use Rattle.sx_outside.specs.Memory.{after_gift, after_failed_gift};
 ghost use Rattle.sx_outside.specs.Transfer.{Takes, Stays};
@@ -71,6 +71,7 @@ impl Source for MemSource {
         ensures taken { IfOk result (λ n. Takes (Some self.old.left) (take n room.new) (Some self.new.left)) }
         ensures nothing_taken { OnErr result (Stays (Some self.old.left) (Some self.new.left)) }
         ensures cause { OnErr result (Rose self.old.faults self.new.faults) }
+        ensures no_fault { OnOk result (self.new.faults ≡ self.old.faults) }
         ensures never_falls { self.old.faults ≤ self.new.faults }
 
         ensures fails { IsErr result ↔ Contains self.old.failing (self.old.calls + 1) }

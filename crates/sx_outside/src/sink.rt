@@ -1,4 +1,4 @@
-ghost use Rattle.std.specs.Prelude.{◌<◌, ◌≤◌, List, Option, ℕ, length, take, IfOk, OnErr};
+ghost use Rattle.std.specs.Prelude.{◌≡◌, ◌<◌, ◌≤◌, List, Option, ℕ, length, take, IfOk, OnOk, OnErr};
 ghost use Rattle.sx_outside.specs.Faults.{Rose};
 ghost use Rattle.sx_outside.specs.Transfer.{Gains, Stays};
 
@@ -13,7 +13,7 @@ pub trait Sink {
     ghost faults: { Self → ℕ };
 
     /// Writes a front of the piece, at least one byte, and tells how long it is.
-    /// At `Failed` nothing was written.
+    /// At `Failed` nothing was written. A call that succeeds leaves the count of faults.
     fn put(&mut self, piece: &[u8]) -> Result<usize, Failed>
         requires { 0 < length piece.now }
         ensures some { IfOk result (λ n. 0 < n) }
@@ -21,5 +21,6 @@ pub trait Sink {
         ensures put { IfOk result (λ n. Gains (written self.old) (take n piece.now) (written self.new)) }
         ensures nothing_written { OnErr result (Stays (written self.old) (written self.new)) }
         ensures cause { OnErr result (Rose (faults self.old) (faults self.new)) }
+        ensures no_fault { OnOk result (faults self.new ≡ faults self.old) }
         ensures never_falls { faults self.old ≤ faults self.new };
 }

@@ -41,10 +41,10 @@ impl<W: Write> Sink for StdSink<W> {
             OnErr result (Stays (written self.old) (written self.new)) }
         ensures cause { let faults = ⟦<StdSink<W> as Sink>⟧.faults in
             OnErr result (Rose (faults self.old) (faults self.new)) }
-        ensures never_falls { let faults = ⟦<StdSink<W> as Sink>⟧.faults in faults self.old ≤ faults self.new }
-
         ensures no_fault { let faults = ⟦<StdSink<W> as Sink>⟧.faults in
             OnOk result (faults self.new ≡ faults self.old) }
+        ensures never_falls { let faults = ⟦<StdSink<W> as Sink>⟧.faults in faults self.old ≤ faults self.new }
+
         ensures one_fault { let faults = ⟦<StdSink<W> as Sink>⟧.faults in
             OnErr result (faults self.new ≡ one_more (faults self.old)) }
     {

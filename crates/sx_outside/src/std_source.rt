@@ -39,10 +39,10 @@ impl<R: Read> Source for StdSource<R> {
             OnErr result (Stays (left self.old) (left self.new)) }
         ensures cause { let faults = ⟦<StdSource<R> as Source>⟧.faults in
             OnErr result (Rose (faults self.old) (faults self.new)) }
-        ensures never_falls { let faults = ⟦<StdSource<R> as Source>⟧.faults in faults self.old ≤ faults self.new }
-
         ensures no_fault { let faults = ⟦<StdSource<R> as Source>⟧.faults in
             OnOk result (faults self.new ≡ faults self.old) }
+        ensures never_falls { let faults = ⟦<StdSource<R> as Source>⟧.faults in faults self.old ≤ faults self.new }
+
         ensures one_fault { let faults = ⟦<StdSource<R> as Source>⟧.faults in
             OnErr result (faults self.new ≡ one_more (faults self.old)) }
     {

@@ -25,5 +25,6 @@ pub trait ReadEnd {
         ensures goes_on_telling { tells self.old → tells self.new }
         ensures counted { reads self.new ≡ plus (reads self.old) 1 }
         ensures cause { OnErr result (Rose (faults self.old) (faults self.new)) }
+        ensures no_fault { OnOk result (faults self.new ≡ faults self.old) }
         ensures never_falls { faults self.old ≤ faults self.new };
 }

@@ -135,6 +135,7 @@ impl Volume for FuseVolume {
         ensures counted { self.new.bytes_read ≡ plus self.old.bytes_read (length room.old) }
         ensures calm { IsTrue (is_calm self.old.inner) → IsTrue (is_calm self.new.inner) }
         ensures cause { OnErr result (Rose self.old.faults self.new.faults) }
+        ensures no_fault { OnOk result (self.new.faults ≡ self.old.faults) }
         ensures never_falls { self.old.faults ≤ self.new.faults }
         ensures no_image_more { IsWithin (MayLeave self.old.inner) (MayHaveLeft self.new.inner (moment_of self.old.inner)) }
         ensures no_image_less { IsWithin (MayLeave self.new.inner) (MayLeave self.old.inner) }
@@ -159,6 +160,7 @@ impl Volume for FuseVolume {
         ensures same_read { self.new.bytes_read ≡ self.old.bytes_read }
         ensures spare { self.old.inner.spare ≤ self.new.inner.spare }
         ensures calm { IsTrue (is_calm self.old.inner) → IsTrue (is_calm self.new.inner) }
+        ensures no_fault { self.new.faults ≡ self.old.faults }
         ensures never_falls { self.old.faults ≤ self.new.faults }
         ensures no_image_more { IsWithin (MayLeave self.old.inner) (MayHaveLeft self.new.inner (moment_of self.old.inner)) }
         ensures no_image_less { IsWithin (MayLeave self.new.inner) (MayLeave self.old.inner) }
@@ -180,6 +182,7 @@ impl Volume for FuseVolume {
         ensures same_held { self.new.inner.held ≡ self.old.inner.held }
         ensures same_read { self.new.bytes_read ≡ self.old.bytes_read }
         ensures calm { IsTrue (is_calm self.old.inner) → IsTrue (is_calm self.new.inner) }
+        ensures no_fault { self.new.faults ≡ self.old.faults }
         ensures never_falls { self.old.faults ≤ self.new.faults }
         ensures no_image_more { IsWithin (MayLeave self.old.inner) (MayHaveLeft self.new.inner (moment_of self.old.inner)) }
         ensures no_image_less { IsWithin (MayLeave self.new.inner) (MayLeave self.old.inner) }
@@ -200,6 +203,7 @@ impl Volume for FuseVolume {
         ensures same_read { self.new.bytes_read ≡ self.old.bytes_read }
         ensures spare { self.old.inner.spare ≤ self.new.inner.spare + 1 }
         ensures cause { OnErr result (Rose self.old.faults self.new.faults) }
+        ensures no_fault { OnOk result (self.new.faults ≡ self.old.faults) }
         ensures never_falls { self.old.faults ≤ self.new.faults }
         ensures goes_on_telling { IsSome (Some (bytes_of self.old.inner)) → IsSome (Some (bytes_of self.new.inner)) }
         ensures images { Follows (Appends (length (bytes_of self.old.inner) + length (held_piece self.old.inner.held))) (MayLeave self.old.inner) (MayHaveLeft self.new.inner (moment_of self.old.inner)) }
@@ -224,6 +228,7 @@ impl Volume for FuseVolume {
         ensures same_read { self.new.bytes_read ≡ self.old.bytes_read }
         ensures spare { self.old.inner.spare ≤ self.new.inner.spare + 1 }
         ensures cause { OnErr result (Rose self.old.faults self.new.faults) }
+        ensures no_fault { OnOk result (self.new.faults ≡ self.old.faults) }
         ensures never_falls { self.old.faults ≤ self.new.faults }
         ensures goes_on_telling { IsSome (Some (bytes_of self.old.inner)) → IsSome (Some (bytes_of self.new.inner)) }
         ensures images { Follows (Puts at) (MayLeave self.old.inner) (MayHaveLeft self.new.inner (moment_of self.old.inner)) }
@@ -248,6 +253,7 @@ impl Volume for FuseVolume {
         ensures same_read { self.new.bytes_read ≡ self.old.bytes_read }
         ensures spare { self.old.inner.spare ≤ self.new.inner.spare + 1 }
         ensures cause { OnErr result (Rose self.old.faults self.new.faults) }
+        ensures no_fault { OnOk result (self.new.faults ≡ self.old.faults) }
         ensures never_falls { self.old.faults ≤ self.new.faults }
         ensures goes_on_telling { IsSome (Some (bytes_of self.old.inner)) → IsSome (Some (bytes_of self.new.inner)) }
         ensures images { Follows (Cuts len) (MayLeave self.old.inner) (MayHaveLeft self.new.inner (moment_of self.old.inner)) }
@@ -272,6 +278,7 @@ impl Volume for FuseVolume {
         ensures same_read { self.new.bytes_read ≡ self.old.bytes_read }
         ensures spare { self.old.inner.spare ≤ self.new.inner.spare + 1 }
         ensures cause { OnErr result (Rose self.old.faults self.new.faults) }
+        ensures no_fault { OnOk result (self.new.faults ≡ self.old.faults) }
         ensures never_falls { self.old.faults ≤ self.new.faults }
         ensures goes_on_telling { IsSome (Some (bytes_of self.old.inner)) → IsSome (Some (bytes_of self.new.inner)) }
         ensures durable { OnOk result (Only (bytes_of self.old.inner) (MayLeave self.new.inner)) }

@@ -48,6 +48,7 @@ impl ReadEnd for MemEnd {
         ensures goes_on_telling { Unit {0} }
         ensures counted { self.new.calls ≡ plus self.old.calls 1 }
         ensures cause { OnErr result (Rose self.old.faults self.new.faults) }
+        ensures no_fault { OnOk result (self.new.faults ≡ self.old.faults) }
         ensures never_falls { self.old.faults ≤ self.new.faults }
 
         ensures fails { IsErr result ↔ FailsNext self.old }

@@ -193,6 +193,7 @@ impl Volume for MemVolume {
         ensures counted { self.new.bytes_read ≡ plus self.old.bytes_read (length room.old) }
         ensures calm { IsTrue (is_calm self.old) → IsTrue (is_calm self.new) }
         ensures cause { OnErr result (Rose self.old.tally.faults self.new.tally.faults) }
+        ensures no_fault { OnOk result (self.new.tally.faults ≡ self.old.tally.faults) }
         ensures never_falls { self.old.tally.faults ≤ self.new.tally.faults }
         ensures no_image_more { IsWithin (MayLeave self.old) (MayHaveLeft self.new (moment_of self.old)) }
         ensures no_image_less { IsWithin (MayLeave self.new) (MayLeave self.old) }
@@ -215,6 +216,7 @@ impl Volume for MemVolume {
         ensures same_read { self.new.bytes_read ≡ self.old.bytes_read }
         ensures spare { self.old.spare ≤ self.new.spare }
         ensures calm { IsTrue (is_calm self.old) → IsTrue (is_calm self.new) }
+        ensures no_fault { self.new.tally.faults ≡ self.old.tally.faults }
         ensures never_falls { self.old.tally.faults ≤ self.new.tally.faults }
         ensures no_image_more { IsWithin (MayLeave self.old) (MayHaveLeft self.new (moment_of self.old)) }
         ensures no_image_less { IsWithin (MayLeave self.new) (MayLeave self.old) }
@@ -239,6 +241,7 @@ impl Volume for MemVolume {
         ensures same_held { self.new.held ≡ self.old.held }
         ensures same_read { self.new.bytes_read ≡ self.old.bytes_read }
         ensures calm { IsTrue (is_calm self.old) → IsTrue (is_calm self.new) }
+        ensures no_fault { self.new.tally.faults ≡ self.old.tally.faults }
         ensures never_falls { self.old.tally.faults ≤ self.new.tally.faults }
         ensures no_image_more { IsWithin (MayLeave self.old) (MayHaveLeft self.new (moment_of self.old)) }
         ensures no_image_less { IsWithin (MayLeave self.new) (MayLeave self.old) }
@@ -266,6 +269,7 @@ impl Volume for MemVolume {
         ensures same_read { self.new.bytes_read ≡ self.old.bytes_read }
         ensures spare { self.old.spare ≤ self.new.spare + 1 }
         ensures cause { OnErr result (Rose self.old.tally.faults self.new.tally.faults) }
+        ensures no_fault { OnOk result (self.new.tally.faults ≡ self.old.tally.faults) }
         ensures never_falls { self.old.tally.faults ≤ self.new.tally.faults }
         ensures goes_on_telling { IsSome (Some (bytes_of self.old)) → IsSome (Some (bytes_of self.new)) }
         ensures images { Follows (Appends (length (bytes_of self.old) + length (held_piece self.old.held))) (MayLeave self.old) (MayHaveLeft self.new (moment_of self.old)) }
@@ -289,6 +293,7 @@ impl Volume for MemVolume {
         ensures same_read { self.new.bytes_read ≡ self.old.bytes_read }
         ensures spare { self.old.spare ≤ self.new.spare + 1 }
         ensures cause { OnErr result (Rose self.old.tally.faults self.new.tally.faults) }
+        ensures no_fault { OnOk result (self.new.tally.faults ≡ self.old.tally.faults) }
         ensures never_falls { self.old.tally.faults ≤ self.new.tally.faults }
         ensures goes_on_telling { IsSome (Some (bytes_of self.old)) → IsSome (Some (bytes_of self.new)) }
         ensures images { Follows (Puts at) (MayLeave self.old) (MayHaveLeft self.new (moment_of self.old)) }
@@ -313,6 +318,7 @@ impl Volume for MemVolume {
         ensures same_read { self.new.bytes_read ≡ self.old.bytes_read }
         ensures spare { self.old.spare ≤ self.new.spare + 1 }
         ensures cause { OnErr result (Rose self.old.tally.faults self.new.tally.faults) }
+        ensures no_fault { OnOk result (self.new.tally.faults ≡ self.old.tally.faults) }
         ensures never_falls { self.old.tally.faults ≤ self.new.tally.faults }
         ensures goes_on_telling { IsSome (Some (bytes_of self.old)) → IsSome (Some (bytes_of self.new)) }
         ensures images { Follows (Cuts len) (MayLeave self.old) (MayHaveLeft self.new (moment_of self.old)) }
@@ -336,6 +342,7 @@ impl Volume for MemVolume {
         ensures same_read { self.new.bytes_read ≡ self.old.bytes_read }
         ensures spare { self.old.spare ≤ self.new.spare + 1 }
         ensures cause { OnErr result (Rose self.old.tally.faults self.new.tally.faults) }
+        ensures no_fault { OnOk result (self.new.tally.faults ≡ self.old.tally.faults) }
         ensures never_falls { self.old.tally.faults ≤ self.new.tally.faults }
         ensures goes_on_telling { IsSome (Some (bytes_of self.old)) → IsSome (Some (bytes_of self.new)) }
         ensures durable { OnOk result (Only (bytes_of self.old) (MayLeave self.new)) }

@@ -70,6 +70,7 @@ pub trait Volume {
         ensures counted { bytes_read self.new ≡ plus (bytes_read self.old) (length room.old) }
         ensures calm { IsTrue (calm self.old) → IsTrue (calm self.new) }
         ensures cause { OnErr result (Rose (faults self.old) (faults self.new)) }
+        ensures no_fault { OnOk result (faults self.new ≡ faults self.old) }
         ensures never_falls { faults self.old ≤ faults self.new }
         ensures no_image_more { IsWithin (is_image self.old) (was_image self.new (moment self.old)) }
         ensures no_image_less { IsWithin (is_image self.new) (is_image self.old) }
@@ -86,6 +87,7 @@ pub trait Volume {
         ensures same_read { bytes_read self.new ≡ bytes_read self.old }
         ensures spare { spare self.old ≤ spare self.new }
         ensures calm { IsTrue (calm self.old) → IsTrue (calm self.new) }
+        ensures no_fault { faults self.new ≡ faults self.old }
         ensures never_falls { faults self.old ≤ faults self.new }
         ensures no_image_more { IsWithin (is_image self.old) (was_image self.new (moment self.old)) }
         ensures no_image_less { IsWithin (is_image self.new) (is_image self.old) }
@@ -102,6 +104,7 @@ pub trait Volume {
         ensures same_held { held self.new ≡ held self.old }
         ensures same_read { bytes_read self.new ≡ bytes_read self.old }
         ensures calm { IsTrue (calm self.old) → IsTrue (calm self.new) }
+        ensures no_fault { faults self.new ≡ faults self.old }
         ensures never_falls { faults self.old ≤ faults self.new }
         ensures no_image_more { IsWithin (is_image self.old) (was_image self.new (moment self.old)) }
         ensures no_image_less { IsWithin (is_image self.new) (is_image self.old) }
@@ -118,6 +121,7 @@ pub trait Volume {
         ensures same_read { bytes_read self.new ≡ bytes_read self.old }
         ensures spare { spare self.old ≤ spare self.new + 1 }
         ensures cause { OnErr result (Rose (faults self.old) (faults self.new)) }
+        ensures no_fault { OnOk result (faults self.new ≡ faults self.old) }
         ensures never_falls { faults self.old ≤ faults self.new }
         ensures goes_on_telling { IsSome (bytes self.old) → IsSome (bytes self.new) }
         ensures images { Follows (Appends (size self.old + length (held_piece (held self.old)))) (is_image self.old) (was_image self.new (moment self.old)) }
@@ -134,6 +138,7 @@ pub trait Volume {
         ensures same_read { bytes_read self.new ≡ bytes_read self.old }
         ensures spare { spare self.old ≤ spare self.new + 1 }
         ensures cause { OnErr result (Rose (faults self.old) (faults self.new)) }
+        ensures no_fault { OnOk result (faults self.new ≡ faults self.old) }
         ensures never_falls { faults self.old ≤ faults self.new }
         ensures goes_on_telling { IsSome (bytes self.old) → IsSome (bytes self.new) }
         ensures images { Follows (Puts at) (is_image self.old) (was_image self.new (moment self.old)) }
@@ -150,6 +155,7 @@ pub trait Volume {
         ensures same_read { bytes_read self.new ≡ bytes_read self.old }
         ensures spare { spare self.old ≤ spare self.new + 1 }
         ensures cause { OnErr result (Rose (faults self.old) (faults self.new)) }
+        ensures no_fault { OnOk result (faults self.new ≡ faults self.old) }
         ensures never_falls { faults self.old ≤ faults self.new }
         ensures goes_on_telling { IsSome (bytes self.old) → IsSome (bytes self.new) }
         ensures images { Follows (Cuts len) (is_image self.old) (was_image self.new (moment self.old)) }
@@ -166,6 +172,7 @@ pub trait Volume {
         ensures same_read { bytes_read self.new ≡ bytes_read self.old }
         ensures spare { spare self.old ≤ spare self.new + 1 }
         ensures cause { OnErr result (Rose (faults self.old) (faults self.new)) }
+        ensures no_fault { OnOk result (faults self.new ≡ faults self.old) }
         ensures never_falls { faults self.old ≤ faults self.new }
         ensures goes_on_telling { IsSome (bytes self.old) → IsSome (bytes self.new) }
         ensures durable { OnOk result (IfSome (bytes self.old) (λ all. Only all (is_image self.new))) }
