@@ -11,4 +11,4 @@ pub mod writer;
 pub use fault::JsonFault;
 pub use front::read_string;
 pub use reader::read;
-pub use writer::{write, write_string};
+pub use writer::{hex_digit, write, write_string};

@@ -127,7 +127,7 @@ fn write_byte(byte: u8, out: &mut Bytes) -> Result<(), AllocError>
 }
 
 /// A digit to the base 16, in lower case.
-fn hex_digit(digit: u8) -> u8
+pub fn hex_digit(digit: u8) -> u8
     requires { digit < 16 }
     ensures { result ≡ lower_hex_digit digit }
 {

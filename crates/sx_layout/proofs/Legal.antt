@@ -1,73 +1,60 @@
--- Legal commits that load numbers have groups that keep the rules.
-use Rattle.std.proofs.Common.{◌≡◌, ℕ, ℤ, ◌≤◌, inl, inr, List, [], ◌∷◌, length, Option, None, Some, Ok, refl, ap, sym, subst, ◌∙◌, arith, IfSome, ◌<◌}
-use Rattle.sx_tree.specs.declared.json.Scalar.TheVariants as scalars
-use Rattle.sx_tree.specs.Number.{IsLiteral}
-use Rattle.sx_tree.specs.Value.{scalar, array, object}
+-- Legal commits that load values have groups that keep the rules.
+use Rattle.std.proofs.Common.{ℕ, ℤ, ◌<◌, ◌≤◌, inl, inr, List, [], ◌∷◌, Option, None, Some, Ok, refl, sym, subst, arith, IfSome}
+use Rattle.sx_tree.specs.Value.{Value, depth}
 use Rattle.sx_model.specs.Commit.{Commit, AreLegal, first_time}
-use Rattle.sx_model.specs.Edit.{Edit, load, insert, set_scalar, replace, rename, remove, edited, after, AreAccepted, number_limit}
-use Rattle.sx_model.specs.NumberDocuments.{number, AreOfNumbers, LoadNumbers, IsOfNumber, literal_of, with_number}
+use Rattle.sx_model.specs.Edit.{Edit, load, insert, set_scalar, replace, rename, remove, edited, after, AreAccepted, number_limit, nesting_limit}
+use Rattle.sx_model.specs.Limits.{KeepsLimits}
+use Rattle.sx_model.specs.LoadDocuments.{AreLoads, AreOfLoads}
 use Rattle.sx_model.specs.State.{State, empty_document}
 use Rattle.sx_model.specs.TreeText.{document_text}
-use Rattle.sx_model.proofs.NumberDocuments.{edited_is, of_number-with, document_text-of, of_number-empty}
+use Rattle.sx_model.proofs.LoadDocuments.{IsLoaded, child_text, edited_is, empty-loaded, loaded-with, loaded_text, with_value}
 use Rattle.sx_layout.specs.Damage.{IsBody, KeepRules, Reads}
-use Rattle.sx_layout.specs.Group.{AreGroups}
+use Rattle.sx_layout.specs.Group.{Group, AreGroups, Holds}
 use Rattle.sx_layout.specs.Stands.{groups_from, groups_of, Stands}
 
--- a state whose numbers and value are within the limits
+-- a state that loads alone made, whose next number is within its limits
 pub record IsWithin (next : ℕ) (state : State) : Type 0 where
   pub no_less : next ≤ state.next
   pub limit : state.next ≤ number_limit
-  pub of_number : IsOfNumber state
+  pub loaded : IsLoaded state
 
-pub after_accepted : (edits : List Edit) (next : ℕ) (state : State) → AreAccepted edits state → LoadNumbers edits → IsWithin next state → IsWithin next (after edits state)
-after_accepted [] next state all numbers is = is
-after_accepted (load (scalar (scalars.Str content)) ∷ edits) next state all numbers is = absurd numbers.0
-after_accepted (load (scalar (scalars.Number literal)) ∷ edits) next state all numbers is =
-    let done = edited_is literal state is.of_number all.1 in
-    let begun : IsWithin next (with_number literal state) =
-    record { no_less = omega (arith, is.no_less); limit = done.0; of_number = of_number-with literal state is.of_number all.0 } in
-    after_accepted edits next (edited (load (number literal)) state) all.2 numbers.1 (subst (IsWithin next) (sym done.1) begun)
-after_accepted (load (scalar (scalars.Bool truth)) ∷ edits) next state all numbers is = absurd numbers.0
-after_accepted (load (scalar scalars.Null) ∷ edits) next state all numbers is = absurd numbers.0
-after_accepted (load (array vs) ∷ edits) next state all numbers is = absurd numbers.0
-after_accepted (load (object fs) ∷ edits) next state all numbers is = absurd numbers.0
-after_accepted (insert place name value ∷ edits) next state all numbers is = absurd numbers.0
-after_accepted (set_scalar k s ∷ edits) next state all numbers is = absurd numbers.0
-after_accepted (replace k value ∷ edits) next state all numbers is = absurd numbers.0
-after_accepted (rename k name ∷ edits) next state all numbers is = absurd numbers.0
-after_accepted (remove k ∷ edits) next state all numbers is = absurd numbers.0
+pub after_accepted : (edits : List Edit) (next : ℕ) (state : State) → AreAccepted edits state → AreLoads edits → IsWithin next state → IsWithin next (after edits state)
+after_accepted [] next state all loads is = is
+after_accepted (load v ∷ edits) next state all loads is =
+    let done = edited_is v state is.loaded all.1 in
+    let begun : IsWithin next (with_value v state) =
+    record { no_less = omega (arith, is.no_less); limit = done.1; loaded = loaded-with v state is.loaded all.0 done.0 } in
+    after_accepted edits next (edited (load v) state) all.2 loads.1 (subst (IsWithin next) (sym done.2) begun)
+after_accepted (insert place name value ∷ edits) next state all loads is = absurd loads.0
+after_accepted (set_scalar k s ∷ edits) next state all loads is = absurd loads.0
+after_accepted (replace k value ∷ edits) next state all loads is = absurd loads.0
+after_accepted (rename k name ∷ edits) next state all loads is = absurd loads.0
+after_accepted (remove k ∷ edits) next state all loads is = absurd loads.0
 
--- the text of a document of a number
-pub text_is : (state : State) (is : IsOfNumber state) → document_text state.trees ≡ literal_of is.child
-text_is state is = ap document_text is.trees ∙ document_text-of is.child
+child_body : (child : Option (Value × ℕ)) → IfSome child (λ c. KeepsLimits c.0 × (depth c.0 ≤ nesting_limit) × (0 < c.1)) → IsBody (child_text child)
+child_body None is = inl refl
+child_body (Some c) is = inr (c.0, is.0, is.1, refl)
 
-literal_body : (child : Option (ℕ × List ℕ)) → IfSome child (λ c. (0 < c.0) × IsLiteral c.1) → IsBody (literal_of child) × (length (literal_of child) ≤ 64)
-literal_body None is = (inl refl, omega arith)
-literal_body (Some c) is = (inr is.1, is.1.1)
+-- the text of a document that loads made is the body of a group
+pub body_is : (state : State) → IsLoaded state → IsBody (document_text state.trees)
+body_is state is = subst IsBody (sym (loaded_text state is)) (child_body is.child is.value)
 
-pub body_is : (state : State) → IsOfNumber state → IsBody (document_text state.trees) × (length (document_text state.trees) ≤ 64)
-body_is state is = subst (λ (text : List ℕ). IsBody text × (length text ≤ 64)) (sym (text_is state is)) (literal_body is.child is.number)
-
-pub groups_keep : (commits : List Commit) (time : ℤ) (state : State) → AreLegal time state commits → AreOfNumbers commits → IsWithin state.next state
+pub groups_keep : (commits : List Commit) (time : ℤ) (state : State) → AreLegal time state commits → AreOfLoads commits → IsWithin state.next state
     → KeepRules time state.next (groups_from state commits)
-groups_keep [] time state legal numbers is = tt
-groups_keep (commit ∷ commits) time state legal numbers is =
-    let now = after_accepted commit.edits state.next state legal.2 numbers.0 is in (
-      record { no_less = now.no_less; within = now.limit; no_earlier = legal.1; body = (body_is (after commit.edits state) now.of_number).0 },
-      groups_keep commits commit.time (after commit.edits state) legal.3 numbers.1 (record { no_less = omega arith; limit = now.limit; of_number = now.of_number }),
-    )
-
-pub groups_are : (commits : List Commit) (time : ℤ) (state : State) → AreLegal time state commits → AreOfNumbers commits → IsWithin state.next state → AreGroups (groups_from state commits)
-groups_are [] time state legal numbers is = tt
-groups_are (commit ∷ commits) time state legal numbers is =
-    let now = after_accepted commit.edits state.next state legal.2 numbers.0 is in
-    let short = (body_is (after commit.edits state) now.of_number).1 in (
-      record { time = legal.0; next = omega (arith, now.limit); size = omega (arith, short) },
-      groups_are commits commit.time (after commit.edits state) legal.3 numbers.1 (record { no_less = omega arith; limit = now.limit; of_number = now.of_number }),
+groups_keep [] time state legal loads is = tt
+groups_keep (commit ∷ commits) time state legal loads is =
+    let now = after_accepted commit.edits state.next state legal.2 loads.0 is in (
+      record { no_less = now.no_less; within = now.limit; no_earlier = legal.1; body = body_is (after commit.edits state) now.loaded },
+      groups_keep commits commit.time (after commit.edits state) legal.3 loads.1 (record { no_less = omega arith; limit = now.limit; loaded = now.loaded }),
     )
 
 pub begins_within : IsWithin empty_document.next empty_document
-begins_within = record { no_less = omega arith; limit = omega arith; of_number = of_number-empty }
+begins_within = record { no_less = omega arith; limit = omega arith; loaded = empty-loaded }
+
+-- the groups of an image are groups
+pub groups_held : (image : List ℕ) (groups : List Group) → Holds image groups → AreGroups groups
+groups_held image groups (inl short) = subst AreGroups (sym short.1) tt
+groups_held image groups (inr held) = held.1.are
 
 -- An image that stands for commits is read as their groups.
 pub stands_reads : (image : List ℕ) (commits : List Commit) → Stands image commits → Reads image (Ok (groups_of commits))

@@ -7,3 +7,4 @@ pub mod FrameGroups
 pub mod Births
 pub mod BornReadings
 pub mod BornRows
+mod PlainRows

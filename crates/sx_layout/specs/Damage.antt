@@ -4,13 +4,15 @@ use Rattle.std.specs.Int.{cast_unsigned, w64}
 use Rattle.sx_bytes.specs.Damage.{number_damage}
 use Rattle.sx_bytes.specs.declared.damage.Damage.{Damage}
 use Rattle.sx_model.specs.Commit.{first_time}
-use Rattle.sx_model.specs.Edit.{number_limit}
-use Rattle.sx_tree.specs.Number.{IsLiteral}
+use Rattle.sx_model.specs.Canonical.{text}
+use Rattle.sx_model.specs.Edit.{nesting_limit, number_limit}
+use Rattle.sx_model.specs.Limits.{KeepsLimits}
+use Rattle.sx_tree.specs.Value.{Value, depth}
 use Rattle.sx_layout.specs.Group.{Group, AreGroups, Holds, head_bytes, group_limit, opened, end_of, last_time, last_next}
 
--- a body is nothing, or the text of a value
+-- a body is nothing, or the canonical text of a value within the limits
 abbrev pub IsBody : List ℕ → Type 0
-IsBody body = (body ≡ []) ⊎ IsLiteral body
+IsBody body = (body ≡ []) ⊎ ((value : Value) × KeepsLimits value × (depth value ≤ nesting_limit) × (body ≡ text value))
 
 -- Behind a group of this time and this next number: neither falls, the next number is within its limit, and the body is one.
 pub record KeepsRules (time : ℤ) (next : ℕ) (group : Group) : Type 0 where
@@ -86,11 +88,13 @@ abbrev pub Reads : List ℕ → Result (List Group) Damage → Type 0
 Reads image (Ok groups) = Holds image groups × KeepRules first_time 1 groups
 Reads image (Err damage) = IsDamaged image damage
 
--- The two values of a damage contradict its rule, whatever the volume tells.
+-- The two values of a damage are numbers of 8 bytes, or times, and contradict its rule, whatever the volume tells.
 abbrev pub Contradicts : Breach → Type 0
 Contradicts breach =
-    ((breach.rule ≡ 6) × (breach.kept < breach.found))
+    (breach.kept < 2 ^ 64) × (breach.found < 2 ^ 64)
+    × (((breach.rule ≡ 6) × (breach.kept < breach.found))
     ⊎ ((breach.rule ≡ 12) × (breach.found < breach.kept))
     ⊎ ((breach.rule ≡ 12) × (breach.kept ≡ number_limit) × (breach.kept < breach.found))
-    ⊎ ((breach.rule ≡ 8) × (kept : ℤ) × (found : ℤ) × (found <ℤ kept) × (breach.kept ≡ cast_unsigned w64 kept) × (breach.found ≡ cast_unsigned w64 found))
-    ⊎ ((breach.rule ≡ 20) × (breach.kept ≡ 0) × (breach.found ≡ 0))
+    ⊎ ((breach.rule ≡ 8) × (kept : ℤ) × (found : ℤ) × FitsSigned w64 kept × FitsSigned w64 found × (found <ℤ kept)
+    × (breach.kept ≡ cast_unsigned w64 kept) × (breach.found ≡ cast_unsigned w64 found))
+    ⊎ ((breach.rule ≡ 20) × (breach.kept ≡ 0) × (breach.found ≡ 0)))

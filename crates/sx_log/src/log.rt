@@ -35,7 +35,7 @@ pub(crate) enum Pending {
 pub struct Log {
     pub birth: Birth,
     pub groups: Groups,
-    /// The place of the closed gate, in bytes from the start of the volume.
+    /// The place of the closed gate, in bytes from the start of the volume. The place behind it fits 64 bits too.
     pub end: u64,
     pub(crate) pending: Pending,
     ghost end_fits: { end + 1 < 2 ^ 64 },

@@ -8,7 +8,7 @@ pub mod Examples
 pub mod FirstBytes
 mod HashRows
 pub mod Holes
-pub mod NumberDocuments
+pub mod LoadDocuments
 pub mod NumberedTrees
 pub mod OneString
 pub mod OneValue

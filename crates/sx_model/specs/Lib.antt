@@ -8,7 +8,7 @@ pub mod Grammar
 pub mod Hash
 pub mod Holes
 pub mod Limits
-pub mod NumberDocuments
+pub mod LoadDocuments
 pub mod Numbered
 pub mod PathText
 pub mod Paths
