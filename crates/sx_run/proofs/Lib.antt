@@ -1,3 +1,2 @@
 pub mod Cutting
-pub mod Runs
-pub mod Legal
+pub mod Running

@@ -1,76 +1,157 @@
--- A run over the lines of a script: what it changes and what it writes.
-use Rattle.std.specs.Prelude.{ℕ, ℤ, ◌≡◌, ◌+◌, nat_le, List, [], ◌∷◌, ◌++◌, length, Option, MatchResult, FitsSigned}
+-- A run over the items of a script: what it changes and what it writes.
+use Rattle.std.specs.Prelude.{ℕ, ℤ, ◌≡◌, ◌+◌, ◌⊎◌, nat_le, List, [], ◌∷◌, ◌++◌, length, replicate, slice_set, get_or, Option, None, Some, MatchResult, FitsSigned}
 use Rattle.std.specs.Bool.{MatchBool}
 use Rattle.std.specs.Int.{int_max, w64}
 use Rattle.sx_model.specs.Commit.{Commit, replay, state_of, first_time, last_time}
-use Rattle.sx_model.specs.Edit.{Edit, apply, after}
+use Rattle.sx_model.specs.Edit.{Edit, apply, after, edit_of, first_new}
 use Rattle.sx_model.specs.State.{State, empty_document}
-use Rattle.sx_model.specs.Tree.{Forest, no_trees, tree_then}
-use Rattle.sx_model.specs.TreeText.{document_text}
 use Rattle.sx_outside.specs.Clock.{Ticks}
-use Rattle.sx_run.specs.Command.{Command, edit, commit, open_number, ask_text}
-use Rattle.sx_run.specs.Line.{Item, skipped, no_command, command, Says}
-use Rattle.sx_run.specs.Reply.{Reply, first, committed, opened, text, empty, line_refused, edit_refused, missing, reply_bytes}
+use Rattle.sx_run.specs.Answers.{AnswersAt}
+use Rattle.sx_run.specs.Client.{client_count}
+use Rattle.sx_run.specs.Item.{Item, single, quit}
+use Rattle.sx_run.specs.Reply.{reply_bytes}
+use Rattle.sx_run.specs.declared.line.Command.{Command}
+use Rattle.sx_run.specs.declared.line.Command.TheVariants as commands
+use Rattle.sx_run.specs.declared.line.Line.{Line}
+use Rattle.sx_run.specs.declared.line.Line.TheVariants as lines
+use Rattle.sx_run.specs.declared.reply.Said.{Said}
+use Rattle.sx_run.specs.declared.reply.Said.TheVariants as said
+use Rattle.sx_tree.specs.declared.query.Which.{Which}
+use Rattle.sx_tree.specs.declared.query.Which.TheVariants as revisions
+
+-- a commit that failed, and the stage of it: 1 before its gate, 2 at its gate
+pub record Failure : Type 0 where
+  pub stage : ℕ
+  pub commit : Commit
+
+-- what the writer has: the commits, the open edits, and the commit that stopped it
+pub record Book : Type 0 where
+  pub commits : List Commit
+  pub edits : List Edit
+  pub stopped : Option Failure
+
+-- the revision that a client has open, and the number of commits that it has seen
+pub record Client : Type 0 where
+  pub revision : ℕ
+  pub seen : ℕ
 
 pub record Course : Type 0 where
-  pub commits : List Commit
-  -- the open edits
-  pub edits : List Edit
-  -- the revision that the client has open
-  pub revision : ℕ
-  -- the number of commits that the client has seen
-  pub seen : ℕ
+  pub book : Book
+  pub clients : List Client
   -- the clock's moments to come, where it tells them
   pub moments : Option (List ℤ)
 
+-- What a layout of the volume has no room for: the reply to a commit that would make these commits, where there is one.
+abbrev pub Room : Type 0
+Room = List Commit → Option Said
+
+-- the book of these commits, with nothing open
+abbrev pub book_of : List Commit → Book
+book_of commits = record { commits = commits; edits = []; stopped = None }
+
 -- a run begins over these commits, with all of them seen and revision 0 open
 abbrev pub started : List Commit → Option (List ℤ) → Course
-started commits moments = record { commits = commits; edits = []; revision = 0; seen = length commits; moments = moments }
+started commits moments = record { book = book_of commits; clients = replicate client_count (record { revision = 0; seen = length commits }); moments = moments }
 
 -- the state of the last commit with the open edits applied
-abbrev pub current : Course → State
-current course = after course.edits (replay course.commits empty_document)
+abbrev pub current : Book → State
+current book = after book.edits (replay book.commits empty_document)
 
--- the text of the document, or that it has no child
-abbrev pub text_reply : Forest → Reply
-text_reply no_trees = empty
-text_reply (tree_then document no_trees rest) = empty
-text_reply (tree_then document (tree_then n below more) rest) = text (document_text (tree_then document (tree_then n below more) rest))
+-- the commit of the open edits, at a moment of the clock: its time is the greater of that and the last commit's time
+abbrev pub next_commit : Book → ℤ → Commit
+next_commit book moment = record { time = int_max moment (last_time first_time book.commits); edits = book.edits }
 
--- The commit's time is the greater of the moment and the last commit's time.
-abbrev pub next_commit : Course → ℤ → Commit
-next_commit course moment = record { time = int_max moment (last_time first_time course.commits); edits = course.edits }
+-- ---- the writer's commands
 
--- What a command answers, and what it leaves.
-abbrev pub Answers : Course → Command → Reply → Course → Type 0
-Answers old (edit asked) reply new =
+-- a writer that stopped says so
+abbrev pub IfStopped : Option Failure → Said → Type 0 → Type 0 → Type 0
+IfStopped None reply same other = other
+IfStopped (Some failure) reply same other = (reply ≡ said.Stopped failure.stage) × same
+
+-- what is said of an accepted edit, by the first new number
+abbrev pub edited_said : Option ℕ → Said
+edited_said None = said.Done
+edited_said (Some number) = said.First number
+
+abbrev pub AnswersEdit : Book → Edit → Said → Book → Type 0
+AnswersEdit old asked reply new =
     MatchResult (apply asked (current old))
-    (λ state. (reply ≡ first (current old).next) × (new ≡ record old { edits = old.edits ++ asked ∷ [] }))
-    (λ refusal. (reply ≡ edit_refused refusal) × (new ≡ old))
-Answers old commit reply new =
-    (moment : ℤ) × FitsSigned w64 moment × Ticks old.moments moment new.moments
-    × (reply ≡ committed (length old.commits + 1) (next_commit old moment).time)
-    × (new ≡ record old { commits = old.commits ++ next_commit old moment ∷ []; edits = []; moments = new.moments })
--- an open looks, and sees all commits
-Answers old (open_number revision) reply new =
-    MatchBool (nat_le revision (length old.commits))
-    ((reply ≡ opened revision) × (new ≡ record old { revision = revision; seen = length old.commits }))
-    ((reply ≡ missing revision (length old.commits)) × (new ≡ record old { seen = length old.commits }))
-Answers old ask_text reply new = (reply ≡ text_reply (state_of old.commits old.revision).trees) × (new ≡ old)
+    (λ state. (reply ≡ edited_said (first_new asked (current old))) × (new ≡ record old { edits = old.edits ++ asked ∷ [] }))
+    (λ refusal. (reply ≡ said.Refused refusal) × (new ≡ old))
 
--- What an item writes, and what it leaves.
-abbrev pub Gives : Course → Item → List ℕ → Course → Type 0
-Gives old skipped out new = (out ≡ []) × (new ≡ old)
-Gives old no_command out new = (out ≡ reply_bytes line_refused) × (new ≡ old)
-Gives old (command said) out new = (reply : Reply) × Answers old said reply new × (out ≡ reply_bytes reply)
+-- it joins the commits, and no edits are open
+abbrev pub with_commit : Book → Commit → Book
+with_commit old next = book_of (old.commits ++ next ∷ [])
+
+-- A commit that failed drops the open edits and stops the writer.
+abbrev pub FailsCommit : Book → Commit → Said → Book → Type 0
+FailsCommit old next reply new =
+    (stage : ℕ) × ((stage ≡ 1) ⊎ (stage ≡ 2)) × (reply ≡ said.FailedStage stage)
+    × (new ≡ record { commits = old.commits; edits = []; stopped = Some (record { stage = stage; commit = next }) })
+
+-- what a commit at a moment of the clock answers, where the volume may fail
+abbrev pub AnswersCommit : Option Said → Book → Commit → Said → Book → Type 0
+AnswersCommit None old next reply new =
+    ((reply ≡ said.Committed (length old.commits + 1) next.time) × (new ≡ with_commit old next)) ⊎ FailsCommit old next reply new
+AnswersCommit (Some full) old next reply new = (reply ≡ full) × (new ≡ old)
+
+-- ---- each command
+
+-- the client's part after the command
+abbrev pub with_client : Course → ℕ → Client → Course
+with_client old client now = record old { clients = slice_set old.clients client now }
+
+-- no client is there
+abbrev pub nobody : Client
+nobody = record { revision = 0; seen = 0 }
+
+abbrev pub revision_of : Course → ℕ → ℕ
+revision_of course client = (get_or course.clients client nobody).revision
+
+-- An open looks, and sees all commits. The revision that is asked for is opened, if it is there.
+abbrev pub AnswersOpen : Course → ℕ → Which → Said → Course → Type 0
+AnswersOpen old client revisions.Latest reply new =
+    let seen = length old.book.commits in
+    (reply ≡ said.Opened seen) × (new ≡ with_client old client (record { revision = seen; seen = seen }))
+AnswersOpen old client (revisions.Number r) reply new =
+    let seen = length old.book.commits in
+    MatchBool (nat_le r seen)
+    ((reply ≡ said.Opened r) × (new ≡ with_client old client (record { revision = r; seen = seen })))
+    ((reply ≡ said.Missing r seen) × (new ≡ with_client old client (record { revision = revision_of old client; seen = seen })))
+
+-- What a command of a client answers, and what it leaves.
+abbrev pub Answers : Room → Course → ℕ → Command → Said → Course → Type 0
+Answers room old client (commands.Edit edit) reply new =
+    IfStopped old.book.stopped reply (new ≡ old)
+    ((book : Book) × AnswersEdit old.book (edit_of edit) reply book × (new ≡ record old { book = book }))
+Answers room old client commands.Rollback reply new = (reply ≡ said.Done) × (new ≡ record old { book = record old.book { edits = [] } })
+-- the clock is asked once, unless the writer is stopped
+Answers room old client commands.Commit reply new =
+    IfStopped old.book.stopped reply (new ≡ old)
+    ((moment : ℤ) × (book : Book) × FitsSigned w64 moment × Ticks old.moments moment new.moments
+    × AnswersCommit (room (with_commit old.book (next_commit old.book moment)).commits) old.book (next_commit old.book moment) reply book
+    × (new ≡ record old { book = book; moments = new.moments }))
+Answers room old client (commands.Open which) reply new = AnswersOpen old client which reply new
+Answers room old client (commands.Ask query) reply new = AnswersAt (state_of old.book.commits (revision_of old client)) query reply × (new ≡ old)
+Answers room old client commands.Quit reply new = ⊥
+
+-- ---- runs
 
 -- What a line writes, and what it leaves.
-abbrev pub Step : Course → List ℕ → List ℕ → Course → Type 0
-Step old line out new = (item : Item) × Says line item × Gives old item out new
+abbrev pub Replies : Room → Course → Line → List ℕ → Course → Type 0
+Replies room old lines.Skip out new = (out ≡ []) × (new ≡ old)
+Replies room old (lines.Refused client) out new = (out ≡ reply_bytes None said.NoCommand) × (new ≡ old)
+Replies room old (lines.BadJson client fault) out new = (out ≡ reply_bytes None (said.Json fault)) × (new ≡ old)
+Replies room old (lines.Command client command) out new = (reply : Said) × Answers room old client command reply new × (out ≡ reply_bytes None reply)
 
--- the lines in their order write these bytes
-abbrev pub Run : Course → List (List ℕ) → List ℕ → Course → Type 0
-Run old [] out new = (out ≡ []) × (new ≡ old)
-Run old (line ∷ lines) out new =
+-- What an item writes, and what it leaves.
+abbrev pub Gives : Room → Course → Item → List ℕ → Course → Type 0
+Gives room old (single line) out new = Replies room old line out new
+Gives room old quit out new = (out ≡ []) × (new ≡ old)
+
+-- the items in their order write these bytes
+abbrev pub Run : Room → Course → List Item → List ℕ → Course → Type 0
+Run room old [] out new = (out ≡ []) × (new ≡ old)
+Run room old (item ∷ items) out new =
     (mid : Course) × (written : List ℕ) × (rest : List ℕ)
-    × Step old line written mid × Run mid lines rest new × (out ≡ written ++ rest)
+    × Gives room old item written mid × Run room mid items rest new × (out ≡ written ++ rest)

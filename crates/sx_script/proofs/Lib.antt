@@ -1,0 +1,12 @@
+pub mod Feeds
+pub mod Following
+pub mod Fronts
+pub mod Growing
+pub mod Kept
+pub mod Numbers
+pub mod Pieces
+pub mod Pulling
+pub mod Readers
+pub mod Saying
+pub mod Spelt
+pub mod Trimmed
