@@ -4,7 +4,7 @@ use Rattle.sx_bytes.specs.declared.damage.Damage.{Damage}
 use Rattle.sx_layout.proofs.Readings.{reads_once}
 use Rattle.sx_layout.specs.Damage.{Reads}
 use Rattle.sx_layout.specs.Group.{Group, HasGroups}
-use Rattle.sx_plain.specs.Reading.{BeginsWithGroups, FaultExplains, IsGiven, IsLeft, IsSettled, IsSynced, LeavesImages}
+use Rattle.sx_plain.specs.Reading.{BeginsWithGroups, FaultExplains, IsGiven, IsLeft, IsSettled, IsSynced}
 use Rattle.sx_plain.specs.declared.fault.LogFault.{LogFault}
 use Rattle.sx_plain.specs.declared.fault.LogFault.TheVariants.{Failed, Damaged, OutOfMemory}
 use Rattle.sx_volume.specs.Images.{IsWithin, Elapses, Syncs}
@@ -68,13 +68,13 @@ synced_short (Some image) now size start mid end before first second x y z same 
     synced image start mid end before first second x y z begun within time (λ c was. inr (omega (arith, long, short), here c was))
 
 -- a longer one goes on to have the same bytes
-pub synced_same : (bytes now : Option (List ℕ)) (start mid end : ℕ) (before settled : List ℕ → Type 0) (after : List ℕ → Type 0) (first second : ℕ → List ℕ → Type 0) (x y z : ℕ → Type 0) → now ≡ bytes
-    → IfSome bytes (λ _. Syncs start mid x y) → IsWithin before (first start) → IsSettled now settled → LeavesImages mid end first second y z settled after
+pub synced_same : (bytes now : Option (List ℕ)) (start mid end : ℕ) (before settled : List ℕ → Type 0) (first second : ℕ → List ℕ → Type 0) (x y z : ℕ → Type 0) → now ≡ bytes
+    → IfSome bytes (λ _. Syncs start mid x y) → IsWithin before (first start) → IsSettled now settled → IsWithin settled (second mid) → Elapses mid end first second y z
     → IfSome bytes (λ image. IsSynced image start end before second x z)
-synced_same None now start mid end before settled after first second x y z same begun within only leaves = tt
-synced_same (Some image) now start mid end before settled after first second x y z same begun within only leaves =
+synced_same None now start mid end before settled first second x y z same begun within only no_more time = tt
+synced_same (Some image) now start mid end before settled first second x y z same begun within only no_more time =
     let here = subst (λ (b : Option (List ℕ)). IsSettled b settled) same only in
-    synced image start mid end before first second x y z begun within leaves.time (λ c was. inl (here c (leaves.no_more c was)))
+    synced image start mid end before first second x y z begun within time (λ c was. inl (here c (no_more c was)))
 
 pub or_not : (bytes : Option (List ℕ)) (P : List ℕ → Type 0) (Q : Type 0) → IfSome bytes P → IfSome bytes (λ image. P image ⊎ Q)
 or_not None P Q holds = tt

@@ -115,6 +115,12 @@ with_or_without groups group (Some all) gate old new at_end is has have follows 
     (λ (second : Puts gate (with_closed_group gate group all) c). puts groups all has group is c (subst (λ n. Puts n (with_closed_group n group all) c) at_end second))
     from.2
 
+-- What holds of each image since a moment holds of each image now.
+pub now_too : (bytes : Option (List ℕ)) (P was is : List ℕ → Type 0) → ((c : List ℕ) → is c → was c)
+    → IfSome bytes (λ _. (c : List ℕ) → was c → P c) → IfSome bytes (λ _. (c : List ℕ) → is c → P c)
+now_too None P was is counts holds = tt
+now_too (Some all) P was is counts holds = λ c image. holds c (counts c image)
+
 -- And since its group was kept behind the closed gate.
 pub kept_group : (groups : List Group) (group : Group) (bytes : Option (List ℕ)) (gate from : ℕ) (was : ℕ → List ℕ → Type 0) (has : ℕ → Type 0) → gate ≡ end_of groups → IsGroup group
     → IfSome bytes (λ all. HasGroups all groups)

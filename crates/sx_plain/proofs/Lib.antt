@@ -1,4 +1,5 @@
 pub mod Behind
+pub mod Bodies
 pub mod Groups
 pub mod Moments
 pub mod Shown

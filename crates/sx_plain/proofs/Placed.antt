@@ -6,20 +6,39 @@ use Rattle.sx_bytes.specs.declared.damage.Damage.{Damage}
 use Rattle.sx_layout.specs.Damage.{Head, BeginsWith, Breach, Breaks, IsBody, damage_at, head_breach}
 use Rattle.sx_layout.specs.Group.{Group, group_bytes, head_bytes}
 use Rattle.sx_plain.proofs.Rules.{contradicts}
-use Rattle.sx_plain.specs.Reading.{LeavesImages, TellsDamage}
+use Rattle.sx_plain.specs.Calls.{OnlyReads}
+use Rattle.sx_plain.specs.Reading.{TellsDamage}
+use Rattle.sx_volume.specs.declared.volume.Volume.{Ghosts}
 use Rattle.sx_volume.proofs.Images.{elapses_then, elapses_same}
 
--- the same of two calls
-pub leaves_then : (start mid end : ℕ) (first second third : ℕ → List ℕ → Type 0) (x y z : ℕ → Type 0) (old now new : List ℕ → Type 0)
-    → ((t : ℕ) (c : List ℕ) → t ≤ mid → now c → second t c)
-    → LeavesImages start mid first second x y old now → LeavesImages mid end second third y z now new → LeavesImages start end first third x z old new
-leaves_then start mid end first second third x y z old now new counts_now a b = record {
-  no_more = λ c left.
-      ⊎_elim (λ (before : second start c). a.no_more c before) (λ (during : third mid c). a.no_more c (counts_now start c a.time.later (b.no_more c during)))
-      (b.time.nothing_else start c a.time.later left);
-  no_less = λ c image. b.no_less c (a.no_less c image);
-  time = elapses_then start mid end first second third x y z a.time b.time;
-}
+module _ {V Spot End : Type 0} (g : Ghosts V Spot End) where
+  -- two calls that only read
+  pub reads_then : (old now new : V) → ((t : ℕ) (c : List ℕ) → t ≤ g.moment now → g.is_image now c → g.was_image now t c) → OnlyReads g old now → OnlyReads g now new → OnlyReads g old new
+  reads_then old now new counts_now a b = record {
+    same_bytes = b.same_bytes ∙ a.same_bytes;
+    same_size = b.same_size ∙ a.same_size;
+    spare = omega (arith, a.spare, b.spare);
+    never_falls = omega (arith, a.never_falls, b.never_falls);
+    no_image_more = λ c left.
+        ⊎_elim (λ (before : g.was_image now (g.moment old) c). a.no_image_more c before)
+        (λ (during : g.was_image new (g.moment now) c). a.no_image_more c (counts_now (g.moment old) c a.time.later (b.no_image_more c during)))
+        (b.time.nothing_else (g.moment old) c a.time.later left);
+    no_image_less = λ c image. b.no_image_less c (a.no_image_less c image);
+    time = elapses_then (g.moment old) (g.moment now) (g.moment new) (g.was_image old) (g.was_image now) (g.was_image new) (g.synced old) (g.synced now) (g.synced new) a.time b.time;
+  }
+
+  -- no call
+  pub reads_none : (volume : V) → ((t : ℕ) (c : List ℕ) → t ≤ g.moment volume → g.is_image volume c → g.was_image volume t c) → ((c : List ℕ) → g.was_image volume (g.moment volume) c → g.is_image volume c)
+      → OnlyReads g volume volume
+  reads_none volume counts_now only_now = record {
+    same_bytes = refl;
+    same_size = refl;
+    spare = omega arith;
+    never_falls = omega arith;
+    no_image_more = only_now;
+    no_image_less = λ c image. image;
+    time = elapses_same (g.moment volume) (g.was_image volume) (g.synced volume) (g.is_image volume) counts_now only_now;
+  }
 
 byte_there : (all : List ℕ) (place : ℕ) → place < length all → slice_get all place ≡ Some (slice_index_or (take 1 (drop place all)) 0 0)
 byte_there [] place below = absurd (omega (arith, below))
@@ -56,7 +75,7 @@ pub tells_short : (bytes : Option (List ℕ)) (place left : ℕ) (time : ℤ) (n
 tells_short bytes place left time next damage told short is = (
   record { rule = 6; kept = left; found = 17 },
   is,
-  inl (refl, short),
+  (omega (arith, short), omega arith, inl (refl, short)),
   at bytes told,
 )
   where
@@ -79,12 +98,12 @@ begins all place head time next body read = record {
 
 -- the head breaks a rule
 pub tells_head : (bytes : Option (List ℕ)) (place left : ℕ) (time : ℤ) (next : ℕ) (head : Head) (damage : Damage) → IfSome bytes (λ all. length all ≡ place + left) → 17 ≤ left
-    → FitsSigned w64 head.time → head.next < 2 ^ 32 → head.body < 2 ^ 32
+    → FitsSigned w64 time → next < 2 ^ 32 → left < 2 ^ 64 → FitsSigned w64 head.time → head.next < 2 ^ 32 → head.body < 2 ^ 32
     → IfSome bytes (λ all. take 16 (drop place all) ≡ head_bytes head.time head.next head.body)
     → option_map (damage_at place) (head_breach time next left head) ≡ Some damage → TellsDamage bytes place time next damage
-tells_head bytes place left time next head damage told long fits below also read is =
+tells_head bytes place left time next head damage told long time_fits next_fits left_fits fits below also read is =
     let breach = mapped_some (damage_at place) (head_breach time next left head) damage is in
-    (breach.0, breach.2, contradicts time next left head breach.0 breach.1, at breach.0 breach.1 bytes told read)
+    (breach.0, breach.2, contradicts time next left head breach.0 time_fits next_fits left_fits fits below also breach.1, at breach.0 breach.1 bytes told read)
   where
     at : (x : Breach) → head_breach time next left head ≡ Some x → (b : Option (List ℕ)) → IfSome b (λ all. length all ≡ place + left)
         → IfSome b (λ all. take 16 (drop place all) ≡ head_bytes head.time head.next head.body) → IfSome b (λ all. Breaks time next (drop place all) x)
@@ -101,7 +120,7 @@ pub tells_body : (bytes : Option (List ℕ)) (place left : ℕ) (time : ℤ) (ne
     → head_breach time next left head ≡ None → (IsBody body → ⊥)
     → damage ≡ damage_at place (record { rule = 20; kept = 0; found = 0 }) → TellsDamage bytes place time next damage
 tells_body bytes place left time next head body damage told long fits below also read read_body none no_body is =
-    (record { rule = 20; kept = 0; found = 0 }, is, inr (inr (inr (inr (refl, refl, refl)))), at bytes told read read_body)
+    (record { rule = 20; kept = 0; found = 0 }, is, (omega arith, omega arith, inr (inr (inr (inr (refl, refl, refl))))), at bytes told read read_body)
   where
     at : (b : Option (List ℕ)) → IfSome b (λ all. length all ≡ place + left)
         → IfSome b (λ all. take 16 (drop place all) ≡ head_bytes head.time head.next head.body) → IfSome b (λ all. body ≡ take head.body (drop (place + 16) all))
@@ -134,9 +153,3 @@ group_read (Some all) place group read body =
           ∙ ap (λ (list : List ℕ). head_bytes group.time group.next (length group.body) ++ list) tail
           ∙ sym (append_assoc (head_bytes group.time group.next (length group.body)) group.body rest),
     )
-
--- no call at all
-pub leaves_none : (now : ℕ) (was : ℕ → List ℕ → Type 0) (has : ℕ → Type 0) (image : List ℕ → Type 0) → ((t : ℕ) (c : List ℕ) → t ≤ now → image c → was t c) → ((c : List ℕ) → was now c → image c)
-    → LeavesImages now now was was has has image image
-leaves_none now was has image counts_now only_now =
-    record { no_more = only_now; no_less = λ c left. left; time = elapses_same now was has image counts_now only_now }

@@ -6,7 +6,7 @@ use Rattle.sx_layout.specs.Group.{Group, AreGroups, opened, end_of}
 use Rattle.sx_plain.specs.declared.fault.LogFault.{LogFault}
 use Rattle.sx_plain.specs.declared.fault.LogFault.TheVariants.{Failed, Damaged, OutOfMemory}
 use Rattle.sx_model.specs.Commit.{first_time}
-use Rattle.sx_volume.specs.Images.{Only, IsWithin, Elapses, NoSync}
+use Rattle.sx_volume.specs.Images.{Only, NoSync}
 
 -- groups that keep the rules stand at the front, and a gate behind them lies below the length
 pub record BeginsWithGroups (bytes : Option (List ℕ)) (size : ℕ) (groups : List Group) : Type 0 where
@@ -14,12 +14,6 @@ pub record BeginsWithGroups (bytes : Option (List ℕ)) (size : ℕ) (groups : L
   pub are : AreGroups groups
   pub keep : KeepRules first_time 1 groups
   pub front : IfSome bytes (λ all. (rest : List ℕ) × (all ≡ opened groups ++ rest))
-
--- Calls that make no image and take none away: those since the start are among those before, which are all there now.
-pub record LeavesImages (start end : ℕ) (was is : ℕ → List ℕ → Type 0) (had has : ℕ → Type 0) (before now : List ℕ → Type 0) : Type 0 where
-  pub no_more : IsWithin before (is start)
-  pub no_less : IsWithin now before
-  pub time : Elapses start end was is had has
 
 -- What is told of a group at this place, behind one of this time and this next number: the first rule that the bytes break,
 -- where they are told, and two values that contradict a rule always.

@@ -1,6 +1,7 @@
 //! The log on a volume: groups, one a commit, each behind a gate that is opened when the group is safe.
 #![tactic(auto)]
 
+mod body;
 mod fault;
 mod group;
 mod head;

@@ -1,4 +1,4 @@
-ghost use Rattle.std.specs.Prelude.{◌≡◌, ◌≢◌, ◌<◌, ◌≤◌, ◌⊎◌, [], ◌∷◌, List, ℕ, Result, Ok, IfSome, IfOk, IfErr, OnOk, OnErr, IsErrOf, length};
+ghost use Rattle.std.specs.Prelude.{◌≡◌, ◌≢◌, ◌<◌, ◌≤◌, ◌⊎◌, [], ◌∷◌, List, ℕ, Result, Ok, IfSome, IfOk, IfErr, OnOk, OnErr, IsErrOf, IsSome, length};
 ghost use Rattle.std.specs.Option.{option_map};
 ghost use Rattle.sx_bytes.specs.declared.damage.Damage.{Damage};
 ghost use Rattle.sx_layout.specs.Damage.{Reads};
@@ -17,9 +17,12 @@ use sx_outside::Failed;
 use sx_volume::Volume;
 
 /// Opens the log of a volume. It syncs, and then reads the groups behind open gates. A volume of at most one byte, which
-/// has no groups, is left one closed gate.
+/// has no groups, is left one closed gate. No memory is taken for a body before the volume is known to have its bytes.
 ///
-/// `Damaged` comes for the first group that breaks a rule, and `Failed` only where a call of the volume failed.
+/// # Errors
+///
+/// `Damaged` for the first group that breaks a rule, `Failed` only where a call of the volume failed, and `OutOfMemory`, also
+/// where there are more than 4,294,967,295 groups.
 pub fn open<V: Volume>(alloc: Global, volume: &mut V) -> Result<Log, LogFault>
     // The volume's bytes have one answer by their definition, and it is the one that is given.
     ensures reads { IfOk result (λ log. IfSome (V.bytes volume.old) (λ image. Reads image (Ok log))) }
@@ -34,6 +37,8 @@ pub fn open<V: Volume>(alloc: Global, volume: &mut V) -> Result<Log, LogFault>
         ⊎ IsUnsynced (V.moment volume.old) (V.is_image volume.old) (V.was_image volume.new) (V.synced volume.old) (V.synced volume.new))) }
     ensures time { Elapses (V.moment volume.old) (V.moment volume.new) (V.was_image volume.old) (V.was_image volume.new) (V.synced volume.old) (V.synced volume.new) }
     ensures cause { IsErrOf result LogFault.Failed → Rose (V.faults volume.old) (V.faults volume.new) }
+    ensures no_fault { (IsErrOf result LogFault.Failed → ⊥) → V.faults volume.new ≡ V.faults volume.old }
+    ensures told { IsSome (V.bytes volume.old) → IsSome (V.bytes volume.new) }
     ensures never_falls { V.faults volume.old ≤ V.faults volume.new }
 {
     begin(alloc, volume)?;
@@ -58,6 +63,8 @@ fn begin<V: Volume>(alloc: Global, volume: &mut V) -> Result<(), LogFault>
     ensures images { IsWithin (V.is_image volume.old) (V.was_image volume.new (V.moment volume.old)) }
     ensures time { Elapses (V.moment volume.old) (V.moment volume.new) (V.was_image volume.old) (V.was_image volume.new) (V.synced volume.old) (V.synced volume.new) }
     ensures cause { IsErrOf result LogFault.Failed → Rose (V.faults volume.old) (V.faults volume.new) }
+    ensures no_fault { (IsErrOf result LogFault.Failed → ⊥) → V.faults volume.new ≡ V.faults volume.old }
+    ensures goes_on_telling { IsSome (V.bytes volume.old) → IsSome (V.bytes volume.new) }
     ensures never_falls { V.faults volume.old ≤ V.faults volume.new }
 {
     volume.ready(alloc, 3)?;
@@ -78,6 +85,8 @@ fn make_gate<V: Volume>(alloc: Global, volume: &mut V) -> Result<(), LogFault>
     ensures images { IfSome (V.bytes volume.old) (λ _. (c : List ℕ) → V.was_image volume.new (V.moment volume.old) c → length c ≤ 1) }
     ensures time { Elapses (V.moment volume.old) (V.moment volume.new) (V.was_image volume.old) (V.was_image volume.new) (V.synced volume.old) (V.synced volume.new) }
     ensures cause { IsErrOf result LogFault.Failed → Rose (V.faults volume.old) (V.faults volume.new) }
+    ensures no_fault { (IsErrOf result LogFault.Failed → ⊥) → V.faults volume.new ≡ V.faults volume.old }
+    ensures goes_on_telling { IsSome (V.bytes volume.old) → IsSome (V.bytes volume.new) }
     ensures never_falls { V.faults volume.old ≤ V.faults volume.new }
 {
     let gate = Vec::from_slice(alloc, &[CLOSED])?;
@@ -98,6 +107,8 @@ fn close_gate<V: Volume>(volume: &mut V) -> Result<(), Failed>
     ensures images { IfSome (V.bytes volume.old) (λ _. (c : List ℕ) → V.was_image volume.new (V.moment volume.old) c → length c ≤ 1) }
     ensures time { Elapses (V.moment volume.old) (V.moment volume.new) (V.was_image volume.old) (V.was_image volume.new) (V.synced volume.old) (V.synced volume.new) }
     ensures cause { OnErr result (Rose (V.faults volume.old) (V.faults volume.new)) }
+    ensures no_fault { OnOk result (V.faults volume.new ≡ V.faults volume.old) }
+    ensures goes_on_telling { IsSome (V.bytes volume.old) → IsSome (V.bytes volume.new) }
     ensures never_falls { V.faults volume.old ≤ V.faults volume.new }
 {
     if byte_at(volume, 0)? != CLOSED {

@@ -1,18 +1,19 @@
 // The groups of a volume are read. Nothing is written.
 ghost use Rattle.std.specs.Prelude.{◌≡◌, ◌+◌, ◌^◌, ◌<◌, ◌≤◌, ◌++◌, List, Some, true, false, length, take, drop, OnOk, OnErr, IfSome, IfOk, IfErr, IsErrOf, slice_get, ℕ};
-ghost use Rattle.sx_layout.specs.Damage.{IsBody, KeepsRules};
+ghost use Rattle.sx_layout.specs.Damage.{KeepsRules};
 ghost use Rattle.sx_layout.specs.Group.{HasGroups, IsGroup, end_of, group_bytes, head_bytes};
-ghost use Rattle.sx_plain.specs.Reading.{BeginsWithGroups, FaultExplains, FaultTells, IsOther, LeavesImages};
+ghost use Rattle.sx_plain.specs.Calls.{OnlyReads};
+ghost use Rattle.sx_plain.specs.Reading.{BeginsWithGroups, FaultExplains, FaultTells, IsOther};
 ghost use Rattle.sx_plain.specs.Row.{shown};
 ghost use Rattle.sx_outside.specs.Faults.{Rose};
 
+use crate::body::is_body;
 use crate::group::{OPEN, Row};
 use crate::head::{HEAD_BYTES, Head, LEAST_GROUP};
 use crate::{Log, LogFault};
-use std::alloc::{AllocError, Global};
+use std::alloc::Global;
 use sx_bytes::number_damage;
 use sx_outside::Failed;
-use sx_tree::literal::{Literal, LiteralFault};
 use sx_volume::Volume;
 
 /// Reads the groups from place 0 up to the first gate that is not open.
@@ -23,11 +24,9 @@ pub(crate) fn read_groups<V: Volume>(alloc: Global, volume: &mut V) -> Result<Lo
     ensures groups { IfOk result (λ log. IfSome (V.bytes volume.old) (λ image. HasGroups image log)) }
     ensures front { IfOk result (λ log. BeginsWithGroups (V.bytes volume.old) (V.size volume.old) log) }
     ensures damaged { IfErr result (FaultExplains (V.bytes volume.old)) }
-    ensures same_bytes { V.bytes volume.new ≡ V.bytes volume.old }
-    ensures same_size { V.size volume.new ≡ V.size volume.old }
-    ensures images { LeavesImages (V.moment volume.old) (V.moment volume.new) (V.was_image volume.old) (V.was_image volume.new) (V.synced volume.old) (V.synced volume.new) (V.is_image volume.old) (V.is_image volume.new) }
+    ensures kept { OnlyReads V.Volume volume.old volume.new }
     ensures cause { IsErrOf result LogFault.Failed → Rose (V.faults volume.old) (V.faults volume.new) }
-    ensures never_falls { V.faults volume.old ≤ V.faults volume.new }
+    ensures no_fault { (IsErrOf result LogFault.Failed → ⊥) → V.faults volume.new ≡ V.faults volume.old }
 {
     let len = volume.len();
     let mut log = Log::new(alloc);
@@ -49,11 +48,9 @@ fn read_next<V: Volume>(
     ensures more { IfOk result (λ more. more ≡ true → end_of log.old < end_of log.new) }
     ensures groups { IfOk result (λ more. more ≡ false → IfSome (V.bytes volume.old) (λ image. HasGroups image log.new)) }
     ensures damaged { IfErr result (FaultExplains (V.bytes volume.old)) }
-    ensures same_bytes { V.bytes volume.new ≡ V.bytes volume.old }
-    ensures same_size { V.size volume.new ≡ V.size volume.old }
-    ensures images { LeavesImages (V.moment volume.old) (V.moment volume.new) (V.was_image volume.old) (V.was_image volume.new) (V.synced volume.old) (V.synced volume.new) (V.is_image volume.old) (V.is_image volume.new) }
+    ensures kept { OnlyReads V.Volume volume.old volume.new }
     ensures cause { IsErrOf result LogFault.Failed → Rose (V.faults volume.old) (V.faults volume.new) }
-    ensures never_falls { V.faults volume.old ≤ V.faults volume.new }
+    ensures no_fault { (IsErrOf result LogFault.Failed → ⊥) → V.faults volume.new ≡ V.faults volume.old }
 {
     if byte_at(volume, log.end)? != OPEN {
         return Ok(false);
@@ -81,11 +78,9 @@ fn read_group<V: Volume>(
     ensures fits { IfOk result (λ row. IsGroup (shown row)) }
     ensures keeps { IfOk result (λ row. KeepsRules time next (shown row)) }
     ensures damaged { IfErr result (FaultTells (V.bytes volume.old) place time next) }
-    ensures same_bytes { V.bytes volume.new ≡ V.bytes volume.old }
-    ensures same_size { V.size volume.new ≡ V.size volume.old }
-    ensures images { LeavesImages (V.moment volume.old) (V.moment volume.new) (V.was_image volume.old) (V.was_image volume.new) (V.synced volume.old) (V.synced volume.new) (V.is_image volume.old) (V.is_image volume.new) }
+    ensures kept { OnlyReads V.Volume volume.old volume.new }
     ensures cause { IsErrOf result LogFault.Failed → Rose (V.faults volume.old) (V.faults volume.new) }
-    ensures never_falls { V.faults volume.old ≤ V.faults volume.new }
+    ensures no_fault { (IsErrOf result LogFault.Failed → ⊥) → V.faults volume.new ≡ V.faults volume.old }
 {
     if left < LEAST_GROUP {
         return Err(LogFault::Damaged(number_damage(place, 6, left, LEAST_GROUP)));
@@ -109,18 +104,16 @@ fn read_group<V: Volume>(
 fn read_head<V: Volume>(volume: &mut V, place: u64) -> Result<Head, Failed>
     requires { place + 16 ≤ V.size volume.old }
     ensures head { IfOk result (λ head. IfSome (V.bytes volume.old) (λ all. take 16 (drop place all) ≡ head_bytes head.time head.next head.body)) }
-    ensures same_bytes { V.bytes volume.new ≡ V.bytes volume.old }
-    ensures same_size { V.size volume.new ≡ V.size volume.old }
-    ensures images { LeavesImages (V.moment volume.old) (V.moment volume.new) (V.was_image volume.old) (V.was_image volume.new) (V.synced volume.old) (V.synced volume.new) (V.is_image volume.old) (V.is_image volume.new) }
+    ensures kept { OnlyReads V.Volume volume.old volume.new }
     ensures cause { OnErr result (Rose (V.faults volume.old) (V.faults volume.new)) }
-    ensures never_falls { V.faults volume.old ≤ V.faults volume.new }
+    ensures no_fault { OnOk result (V.faults volume.new ≡ V.faults volume.old) }
 {
     let mut room = [0; HEAD_BYTES];
     volume.read_at(place, &mut room)?;
     Ok(Head::read(&room))
 }
 
-// So many bytes from this place on.
+// So many bytes from this place on, which the volume has.
 fn read_bytes<V: Volume>(
     alloc: Global,
     volume: &mut V,
@@ -131,11 +124,9 @@ fn read_bytes<V: Volume>(
     ensures bytes { IfOk result (λ bytes. IfSome (V.bytes volume.old) (λ all. bytes.items ≡ take count (drop place all))) }
     ensures long { IfOk result (λ bytes. length bytes.items ≡ count) }
     ensures other { IfErr result IsOther }
-    ensures same_bytes { V.bytes volume.new ≡ V.bytes volume.old }
-    ensures same_size { V.size volume.new ≡ V.size volume.old }
-    ensures images { LeavesImages (V.moment volume.old) (V.moment volume.new) (V.was_image volume.old) (V.was_image volume.new) (V.synced volume.old) (V.synced volume.new) (V.is_image volume.old) (V.is_image volume.new) }
+    ensures kept { OnlyReads V.Volume volume.old volume.new }
     ensures cause { IsErrOf result LogFault.Failed → Rose (V.faults volume.old) (V.faults volume.new) }
-    ensures never_falls { V.faults volume.old ≤ V.faults volume.new }
+    ensures no_fault { (IsErrOf result LogFault.Failed → ⊥) → V.faults volume.new ≡ V.faults volume.old }
 {
     let mut bytes = vec![in alloc; 0; count as usize]?;
     volume.read_at(place, &mut bytes)?;
@@ -146,29 +137,11 @@ fn read_bytes<V: Volume>(
 pub(crate) fn byte_at<V: Volume>(volume: &mut V, place: u64) -> Result<u8, Failed>
     requires { place < V.size volume.old }
     ensures byte { IfOk result (λ byte. IfSome (V.bytes volume.old) (λ all. slice_get all place ≡ Some byte)) }
-    ensures same_bytes { V.bytes volume.new ≡ V.bytes volume.old }
-    ensures same_size { V.size volume.new ≡ V.size volume.old }
-    ensures spare { V.spare volume.old ≤ V.spare volume.new }
-    ensures images { LeavesImages (V.moment volume.old) (V.moment volume.new) (V.was_image volume.old) (V.was_image volume.new) (V.synced volume.old) (V.synced volume.new) (V.is_image volume.old) (V.is_image volume.new) }
+    ensures kept { OnlyReads V.Volume volume.old volume.new }
     ensures cause { OnErr result (Rose (V.faults volume.old) (V.faults volume.new)) }
-    ensures never_falls { V.faults volume.old ≤ V.faults volume.new }
+    ensures no_fault { OnOk result (V.faults volume.new ≡ V.faults volume.old) }
 {
     let mut room = [0];
     volume.read_at(place, &mut room)?;
     Ok(room[0])
-}
-
-// The bytes are a body: nothing, or the text of a value.
-fn is_body(alloc: Global, bytes: &[u8]) -> Result<bool, AllocError>
-    ensures yes { IfOk result (λ is. is ≡ true → IsBody bytes.now) }
-    ensures no { IfOk result (λ is. is ≡ false → IsBody bytes.now → ⊥) }
-{
-    if bytes.is_empty() {
-        return Ok(true);
-    }
-    match Literal::new(alloc, bytes) {
-        Ok(_) => Ok(true),
-        Err(LiteralFault::OutOfMemory) => Err(AllocError),
-        Err(_) => Ok(false),
-    }
 }

@@ -1,5 +1,5 @@
 // The volume calls of a commit, in its two stages.
-ghost use Rattle.std.specs.Prelude.{◌≡◌, ◌<◌, ◌≤◌, ◌+◌, ◌++◌, ◌⊎◌, [], ◌∷◌, ℕ, Some, length, take, slice_set, OnOk, OnErr, IfOk, IfErr, IfSome, IsErrOf};
+ghost use Rattle.std.specs.Prelude.{◌≡◌, ◌<◌, ◌≤◌, ◌+◌, ◌++◌, ◌⊎◌, [], ◌∷◌, ℕ, Some, length, take, slice_set, OnOk, OnErr, IfOk, IfErr, IfSome, IsSome, IsErrOf};
 ghost use Rattle.std.specs.Option.{option_map};
 ghost use Rattle.sx_outside.specs.Faults.{Rose};
 ghost use Rattle.sx_layout.specs.Group.{group_bytes, group_limit};
@@ -35,6 +35,8 @@ pub(crate) fn write_group<V: Volume>(
     ensures second_stage { IsErrOf result (CommitFault.Failed 2) → IfSome (V.bytes volume.old) (λ all. KeptSince (V.moment volume.old) (V.was_image volume.new) (V.synced volume.new) (λ image. slice_set image gate OPEN ≡ with_group gate (shown row.now) all)) }
     ensures during { IfSome (V.bytes volume.old) (λ all. Follows (Commits gate (shown row.now) all) (V.is_image volume.old) (V.was_image volume.new (V.moment volume.old))) }
     ensures cause { IfErr result (λ fault. (stage : ℕ) → fault ≡ CommitFault.Failed stage → Rose (V.faults volume.old) (V.faults volume.new)) }
+    ensures no_fault { ((stage : ℕ) → IsErrOf result (CommitFault.Failed stage) → ⊥) → V.faults volume.new ≡ V.faults volume.old }
+    ensures goes_on_telling { IsSome (V.bytes volume.old) → IsSome (V.bytes volume.new) }
     ensures never_falls { V.faults volume.old ≤ V.faults volume.new }
     ensures time { Elapses (V.moment volume.old) (V.moment volume.new) (V.was_image volume.old) (V.was_image volume.new) (V.synced volume.old) (V.synced volume.new) }
 {
@@ -52,6 +54,7 @@ fn prepare<V: Volume>(alloc: Global, volume: &mut V, gate: u64, row: &Row) -> Re
     ensures spare { OnOk result (5 ≤ V.spare volume.new) }
     ensures same_bytes { V.bytes volume.new ≡ V.bytes volume.old }
     ensures same_size { V.size volume.new ≡ V.size volume.old }
+    ensures no_fault { V.faults volume.new ≡ V.faults volume.old }
     ensures never_falls { V.faults volume.old ≤ V.faults volume.new }
     ensures no_image_more { IsWithin (V.is_image volume.old) (V.was_image volume.new (V.moment volume.old)) }
     ensures time { Elapses (V.moment volume.old) (V.moment volume.new) (V.was_image volume.old) (V.was_image volume.new) (V.synced volume.old) (V.synced volume.new) }
@@ -73,6 +76,8 @@ fn stage<V: Volume>(volume: &mut V, gate: u64) -> Result<(), Failed>
     ensures size { OnOk result (V.size volume.new ≡ gate + 1 + length (held_piece (V.held volume.old))) }
     ensures spare { V.spare volume.old ≤ V.spare volume.new + 3 }
     ensures cause { OnErr result (Rose (V.faults volume.old) (V.faults volume.new)) }
+    ensures no_fault { OnOk result (V.faults volume.new ≡ V.faults volume.old) }
+    ensures goes_on_telling { IsSome (V.bytes volume.old) → IsSome (V.bytes volume.new) }
     ensures never_falls { V.faults volume.old ≤ V.faults volume.new }
     ensures synced { OnOk result (IfSome (V.bytes volume.new) (λ _. (V.moment volume.old < V.moment volume.new) × V.synced volume.new (V.moment volume.new))) }
     ensures images { Follows (IsBehind gate) (V.is_image volume.old) (V.was_image volume.new (V.moment volume.old)) }
@@ -92,6 +97,8 @@ fn cut_behind<V: Volume>(volume: &mut V, gate: u64) -> Result<(), Failed>
     ensures same_held { V.held volume.new ≡ V.held volume.old }
     ensures spare { V.spare volume.old ≤ V.spare volume.new + 1 }
     ensures cause { OnErr result (Rose (V.faults volume.old) (V.faults volume.new)) }
+    ensures no_fault { OnOk result (V.faults volume.new ≡ V.faults volume.old) }
+    ensures goes_on_telling { IsSome (V.bytes volume.old) → IsSome (V.bytes volume.new) }
     ensures never_falls { V.faults volume.old ≤ V.faults volume.new }
     ensures images { Follows (IsBehind gate) (V.is_image volume.old) (V.was_image volume.new (V.moment volume.old)) }
     ensures time { Elapses (V.moment volume.old) (V.moment volume.new) (V.was_image volume.old) (V.was_image volume.new) (V.synced volume.old) (V.synced volume.new) }
@@ -111,6 +118,8 @@ fn open_gate<V: Volume>(volume: &mut V, gate: u64) -> Result<(), Failed>
     ensures durable { OnOk result (IfSome (V.bytes volume.new) (λ all. Only all (V.is_image volume.new))) }
     ensures size { V.size volume.new ≡ V.size volume.old }
     ensures cause { OnErr result (Rose (V.faults volume.old) (V.faults volume.new)) }
+    ensures no_fault { OnOk result (V.faults volume.new ≡ V.faults volume.old) }
+    ensures goes_on_telling { IsSome (V.bytes volume.old) → IsSome (V.bytes volume.new) }
     ensures never_falls { V.faults volume.old ≤ V.faults volume.new }
     ensures images { Follows (Puts gate) (V.is_image volume.old) (V.was_image volume.new (V.moment volume.old)) }
     ensures time { Elapses (V.moment volume.old) (V.moment volume.new) (V.was_image volume.old) (V.was_image volume.new) (V.synced volume.old) (V.synced volume.new) }

@@ -48,9 +48,9 @@ returns-in_default-clause-synced g c =
     on_ok c.read_groups.result
     (IfSome (g.V.Volume.bytes c.args.volume.now) (λ image. IsSynced image (g.V.Volume.moment c.args.volume.now) (g.V.Volume.moment c.read_groups.new.volume) (g.V.Volume.is_image c.args.volume.now) (g.V.Volume.was_image c.read_groups.new.volume) (g.V.Volume.synced c.args.volume.now) (g.V.Volume.synced c.read_groups.new.volume)))
     (synced_same (g.V.Volume.bytes c.args.volume.now) (g.V.Volume.bytes c.begin.new.volume) (g.V.Volume.moment c.args.volume.now) (g.V.Volume.moment c.begin.new.volume) (g.V.Volume.moment c.read_groups.new.volume)
-    (g.V.Volume.is_image c.args.volume.now) (g.V.Volume.is_image c.begin.new.volume) (g.V.Volume.is_image c.read_groups.new.volume) (g.V.Volume.was_image c.begin.new.volume) (g.V.Volume.was_image c.read_groups.new.volume)
+    (g.V.Volume.is_image c.args.volume.now) (g.V.Volume.is_image c.begin.new.volume) (g.V.Volume.was_image c.begin.new.volume) (g.V.Volume.was_image c.read_groups.new.volume)
     (g.V.Volume.synced c.args.volume.now) (g.V.Volume.synced c.begin.new.volume) (g.V.Volume.synced c.read_groups.new.volume)
-    c.in_ok-begin.ensures.same_bytes c.in_ok-begin.ensures.synced c.begin.ensures.images c.in_ok-begin.ensures.settled c.read_groups.ensures.images)
+    c.in_ok-begin.ensures.same_bytes c.in_ok-begin.ensures.synced c.begin.ensures.images c.in_ok-begin.ensures.settled c.read_groups.ensures.kept.no_image_more c.read_groups.ensures.kept.time)
 
 pub returns-clause-synced : goal.returns-clause-synced
 returns-clause-synced g c =

@@ -5,7 +5,7 @@ use Rattle.std.proofs.Common.{◌≡◌, ◌∙◌, ℤ, ◌+◌, ap, sym, subst
 use Rattle.std.specs.Option.{option_map}
 use Rattle.sx_layout.specs.Damage.{Head, damage_at, head_breach, IsBody}
 use Rattle.sx_layout.specs.Group.{head_bytes}
-use Rattle.sx_plain.proofs.Placed.{leaves_then, told_long, mapped_none, tells_short, tells_head, tells_body, group_read}
+use Rattle.sx_plain.proofs.Placed.{reads_then, told_long, mapped_none, tells_short, tells_head, tells_body, group_read}
 use Rattle.sx_plain.proofs.Rules.{fine}
 use Rattle.sx_plain.specs.Row.{shown, shown_head}
 use Rattle.sx_plain.specs.declared.group.Row.{Row}
@@ -39,7 +39,7 @@ returns-in-Some-clause-damaged g c =
     let tested = at_time c.args.time c.args.next c.args.left head c.args.place c.damage.result time c.damage.ensures in
     tells_head (g.V.Volume.bytes c.args.volume.now) c.args.place c.args.left c.args.time c.args.next head c.in-Some.damage
     (told_long (g.V.Volume.bytes c.args.volume.now) (g.V.Volume.size c.args.volume.now) (c.args.place + c.args.left) (g.met.V.Volume.told_size c.args.volume.now) c.requires.left)
-    c.if-left-lt-LEAST_GROUP.false fits (search rules) (search rules) c.in_ok-head.ensures.head (tested ∙ c.in-Some.is)
+    c.if-left-lt-LEAST_GROUP.false time (search rules) (search rules) fits (search rules) (search rules) c.in_ok-head.ensures.head (tested ∙ c.in-Some.is)
 
 pub returns-then-not-branch-clause-damaged : goal.returns-then-not-branch-clause-damaged
 returns-then-not-branch-clause-damaged g c =
@@ -48,22 +48,16 @@ returns-then-not-branch-clause-damaged g c =
     let time : FitsSigned w64 c.args.time = search rules in
     let none = fine_none c.args.time c.args.next c.args.left head c.args.place c.damage.result time c.damage.ensures c.in_default.not-Some in
     let body : IfSome (g.V.Volume.bytes c.args.volume.now) (λ all. c.in_ok-body.body.items ≡ take c.in_ok-head.head.body (drop (c.args.place + 16) all)) =
-    subst (λ (b : Option (List ℕ)). IfSome b (λ all. c.in_ok-body.body.items ≡ take c.in_ok-head.head.body (drop (c.args.place + 16) all))) c.read_head.ensures.same_bytes c.in_ok-body.ensures.bytes in
+    subst (λ (b : Option (List ℕ)). IfSome b (λ all. c.in_ok-body.body.items ≡ take c.in_ok-head.head.body (drop (c.args.place + 16) all))) c.read_head.ensures.kept.same_bytes c.in_ok-body.ensures.bytes in
     tells_body (g.V.Volume.bytes c.args.volume.now) c.args.place c.args.left c.args.time c.args.next head c.in_ok-body.body.items c.number_damage-then-not-branch.result
     (told_long (g.V.Volume.bytes c.args.volume.now) (g.V.Volume.size c.args.volume.now) (c.args.place + c.args.left) (g.met.V.Volume.told_size c.args.volume.now) c.requires.left)
     c.if-left-lt-LEAST_GROUP.false fits (search rules) (search rules) c.in_ok-head.ensures.head body none
     (λ is_body. c.in_ok-is_body.ensures.no c.if-not-branch.true (subst IsBody (sym c.deref.ensures.value) is_body)) c.number_damage-then-not-branch.ensures
 
-both_leave : goal.returns-then-not-branch-clause-images
-both_leave g c =
-    leaves_then (g.V.Volume.moment c.args.volume.now) (g.V.Volume.moment c.read_head.new.volume) (g.V.Volume.moment c.read_bytes.new.volume)
-    (g.V.Volume.was_image c.args.volume.now) (g.V.Volume.was_image c.read_head.new.volume) (g.V.Volume.was_image c.read_bytes.new.volume)
-    (g.V.Volume.synced c.args.volume.now) (g.V.Volume.synced c.read_head.new.volume) (g.V.Volume.synced c.read_bytes.new.volume)
-    (g.V.Volume.is_image c.args.volume.now) (g.V.Volume.is_image c.read_head.new.volume) (g.V.Volume.is_image c.read_bytes.new.volume)
-    (g.met.V.Volume.counts_now c.read_head.new.volume) c.read_head.ensures.images c.read_bytes.ensures.images
-
-pub returns-then-not-branch-clause-images : goal.returns-then-not-branch-clause-images
-returns-then-not-branch-clause-images g c = both_leave g c
+pub returns-then-not-branch-clause-kept : goal.returns-then-not-branch-clause-kept
+returns-then-not-branch-clause-kept g c =
+    reads_then g.V.Volume c.args.volume.now c.read_head.new.volume c.read_bytes.new.volume
+    (g.met.V.Volume.counts_now c.read_head.new.volume) c.read_head.ensures.kept c.read_bytes.ensures.kept
 
 pub returns-clause-group : goal.returns-clause-group
 returns-clause-group g c =
@@ -78,7 +72,7 @@ returns-clause-group g c =
     (subst (λ (n : ℕ). IfSome bytes (λ all. take 16 (drop place all) ≡ head_bytes c.in_ok-head.head.time row.next n)) (sym long) c.in_ok-head.ensures.head) in
     let body : IfSome bytes (λ all. items ≡ take (length items) (drop (place + 16) all)) =
     subst (λ (n : ℕ). IfSome bytes (λ all. items ≡ take n (drop (place + 16) all))) (sym long)
-    (subst (λ (b : Option (List ℕ)). IfSome b (λ all. items ≡ take c.in_ok-head.head.body (drop (place + 16) all))) c.read_head.ensures.same_bytes c.in_ok-body.ensures.bytes) in
+    (subst (λ (b : Option (List ℕ)). IfSome b (λ all. items ≡ take c.in_ok-head.head.body (drop (place + 16) all))) c.read_head.ensures.kept.same_bytes c.in_ok-body.ensures.bytes) in
     group_read bytes place (shown row) head body
 
 pub returns-clause-keeps : goal.returns-clause-keeps

@@ -21,7 +21,7 @@ at_end bytes end byte rows groups is shows read =
 pub returns-then-branch-ne-OPEN-clause-groups : goal.returns-then-branch-ne-OPEN-clause-groups
 returns-then-branch-ne-OPEN-clause-groups g c = λ same.
     groups_end (g.V.Volume.bytes c.args.volume.now) (g.V.Volume.size c.args.volume.now) c.args.log.now c.in_ok-byte_at.field-0 c.requires.front
-    (at_end (g.V.Volume.bytes c.args.volume.now) c.log.inside.end c.in_ok-byte_at.field-0 c.log.inside.groups.items c.args.log.now c.log.invariant c.log.view_is c.in_ok-byte_at.ensures.byte)
+    (at_end (g.V.Volume.bytes c.args.volume.now) c.log.inside.end c.in_ok-byte_at.field-0 c.log.inside.groups.items c.args.log.now c.log.invariant.0 c.log.view_is c.in_ok-byte_at.ensures.byte)
     c.if-branch-ne-OPEN.true
 
 long_told : (bytes : Option (List ℕ)) (size : ℕ) → ((all : List ℕ) → bytes ≡ Some all → length all ≡ size) → 1 < size → IfSome bytes (λ all. 1 < length all)
@@ -43,8 +43,8 @@ returns-in_err-row-clause-damaged g c =
     let bytes = g.V.Volume.bytes c.args.volume.now in
     let fits : FitsSigned w64 c.last_time-time.result = search rules in
     let tells = tells_of_log bytes (g.V.Volume.bytes c.byte_at.new.volume) c.log.inside.end c.log.inside.groups.items c.args.log.now (to_z w64 (of_z w64 c.last_time-time.result)) c.last_next-next.result
-    c.in_err-row.field-0.0 c.byte_at.ensures.same_bytes c.log.invariant c.log.view_is (to_z-of_z w64 c.last_time-time.result fits ∙ c.last_time-time.ensures) c.last_next-next.ensures c.in_err-row.ensures.damaged in
-    let at = at_end bytes c.log.inside.end c.in_ok-byte_at.field-0 c.log.inside.groups.items c.args.log.now c.log.invariant c.log.view_is c.in_ok-byte_at.ensures.byte in
+    c.in_err-row.field-0.0 c.byte_at.ensures.kept.same_bytes c.log.invariant.0 c.log.view_is (to_z-of_z w64 c.last_time-time.result fits ∙ c.last_time-time.ensures) c.last_next-next.ensures c.in_err-row.ensures.damaged in
+    let at = at_end bytes c.log.inside.end c.in_ok-byte_at.field-0 c.log.inside.groups.items c.args.log.now c.log.invariant.0 c.log.view_is c.in_ok-byte_at.ensures.byte in
     let explains = damage_explains bytes (g.V.Volume.size c.args.volume.now) c.args.log.now c.in_ok-byte_at.field-0 c.in_err-row.field-0.0 c.requires.front at c.if-branch-ne-OPEN.false
     (long_told bytes (g.V.Volume.size c.args.volume.now) (g.met.V.Volume.told_size c.args.volume.now) c.requires.long) tells in
     search (rules, explains)
@@ -64,16 +64,16 @@ returns-clause-front g c =
     let size : ℕ = g.V.Volume.size c.args.volume.now in
     let group : Group = shown c.in_ok-row.row in
     let fits : FitsSigned w64 c.last_time-time.result = search rules in
-    let at = at_end bytes c.log.inside.end c.in_ok-byte_at.field-0 c.log.inside.groups.items c.args.log.now c.log.invariant c.log.view_is c.in_ok-byte_at.ensures.byte in
+    let at = at_end bytes c.log.inside.end c.in_ok-byte_at.field-0 c.log.inside.groups.items c.args.log.now c.log.invariant.0 c.log.view_is c.in_ok-byte_at.ensures.byte in
     let follows = follows_log bytes (g.V.Volume.bytes c.byte_at.new.volume) c.log.inside.end c.log.inside.groups.items c.args.log.now group
-    c.byte_at.ensures.same_bytes c.log.invariant c.log.view_is c.in_ok-row.ensures.group in
+    c.byte_at.ensures.kept.same_bytes c.log.invariant.0 c.log.view_is c.in_ok-row.ensures.group in
     let time : to_z w64 (of_z w64 c.last_time-time.result) ≡ last_time first_time c.args.log.now = to_z-of_z w64 c.last_time-time.result fits ∙ c.last_time-time.ensures in
     let keeps : KeepsRules (last_time first_time c.args.log.now) (last_next 1 c.args.log.now) group =
     subst (λ (t : ℤ). KeepsRules t (last_next 1 c.args.log.now) group) time
     (subst (λ (n : ℕ). KeepsRules (to_z w64 (of_z w64 c.last_time-time.result)) n group) c.last_next-next.ensures c.in_ok-row.ensures.keeps) in
     let end = ap (λ (gs : List Group). end_of gs) c.log.view_is in
     let more = begins_with_more bytes size c.args.log.now c.in_ok-byte_at.field-0 group c.requires.front at c.if-branch-ne-OPEN.false follows c.in_ok-row.ensures.fits keeps
-    (omega (arith, c.in_ok-row.ensures.room, c.byte_at.ensures.same_size, c.log.invariant, end)) in
+    (omega (arith, c.in_ok-row.ensures.room, c.byte_at.ensures.kept.same_size, c.log.invariant.0, end)) in
     subst (λ (gs : List Group). BeginsWithGroups bytes size gs) (sym c.in_ok-add.ensures.added) more
 
 pub returns-clause-more : goal.returns-clause-more
