@@ -1,0 +1,9 @@
+pub mod Edits
+pub mod Commits
+pub mod Loads
+pub mod Open
+pub mod Opening
+pub mod Room
+pub mod Shows
+pub mod Sound
+pub mod Texts
