@@ -1,0 +1,25 @@
+use Rattle.std.proofs.Common.{◌≡◌, ◌+◌, ◌-◌, ◌<◌, ◌≤◌, ℕ, sym, subst, rules}
+use Rattle.std.specs.Prelude.{IsSomeAnd}
+use Rattle.sx_paths.specs.Table.{Table, row_at}
+use Rattle.sx_paths.proofs.EntryLemmas.{IsTable-recount, table-recount, there}
+use Rattle.sx_paths.proofs.table.PathTable.count_out.Goals as goal
+
+pub overflow_sub-count : goal.overflow_sub-count
+overflow_sub-count c =
+    let given = there c.self.inside.entries.items c.args.p (λ row. c.args.n ≤ row.count) (subst (λ (t : Table). IsSomeAnd (row_at t.paths c.args.p) (λ row. c.args.n ≤ row.count)) (sym c.self.view_is) c.requires) in
+    (given.1 c.index_mut-entry.result.now c.index_mut-entry.ensures.value).1
+
+pub invariant_of-self : goal.invariant_of-self
+invariant_of-self c =
+    let given = there c.self.inside.entries.items c.args.p (λ row. c.args.n ≤ row.count) (subst (λ (t : Table). IsSomeAnd (row_at t.paths c.args.p) (λ row. c.args.n ≤ row.count)) (sym c.self.view_is) c.requires) in
+    let at = given.1 c.index_mut-entry.result.now c.index_mut-entry.ensures.value in
+    IsTable-recount c.self.inside.stamp c.self.inside.mark c.self.inside.entries.items c.self.inside.index (c.args.p - 1) c.index_mut-entry.result.now c.set_count.new.self
+    (λ count. count - c.args.n) c.self.invariant at.0 c.set_count.ensures.row c.set_count.ensures.stamp
+
+pub returns : goal.returns
+returns c =
+    let given = there c.self.inside.entries.items c.args.p (λ row. c.args.n ≤ row.count) (subst (λ (t : Table). IsSomeAnd (row_at t.paths c.args.p) (λ row. c.args.n ≤ row.count)) (sym c.self.view_is) c.requires) in
+    let at = given.1 c.index_mut-entry.result.now c.index_mut-entry.ensures.value in
+    rw (← c.self.view_is)
+    (table-recount c.self.inside.stamp c.self.inside.mark c.self.inside.entries.items (c.args.p - 1) c.index_mut-entry.result.now c.set_count.new.self
+    (λ count. count - c.args.n) at.0 c.set_count.ensures.row c.set_count.ensures.before)

@@ -1,0 +1,4 @@
+pub mod Entries
+pub mod Load
+pub mod Table
+pub mod Words
