@@ -4,6 +4,8 @@
 #[cfg(test)]
 mod fields;
 #[cfg(test)]
+mod lines;
+#[cfg(test)]
 mod maps;
 #[cfg(test)]
 mod outside;
@@ -11,6 +13,8 @@ mod outside;
 mod paths;
 #[cfg(test)]
 mod records;
+#[cfg(test)]
+mod replies;
 #[cfg(test)]
 mod texts;
 #[cfg(test)]

@@ -141,21 +141,21 @@ fn each_call_asks_the_system(rt: HostRuntime) -> Result<(), Fail> {
     Ok(())
 }
 
-// One commit of `7` at the start of the year 2100, and one of `8.50` behind it.
-const FIRST: &[u8] = b"\x01\0\0\x03\xbb\x2c\xc3\xd8\0\0\0\0\x02\0\0\0\x017\0";
+// One commit of `[7]` at the start of the year 2100, and one of `{"a":8.50}` behind it.
+const FIRST: &[u8] = b"\x01\0\0\x03\xbb\x2c\xc3\xd8\0\0\0\0\x03\0\0\0\x03[7]\0";
 
 const BOTH: &[u8] =
-    b"\x01\0\0\x03\xbb\x2c\xc3\xd8\0\0\0\0\x02\0\0\0\x017\x01\0\0\x03\xbb\x2c\xc3\xd8\0\0\0\0\x03\0\0\0\x048.50\0";
+    b"\x01\0\0\x03\xbb\x2c\xc3\xd8\0\0\0\0\x03\0\0\0\x03[7]\x01\0\0\x03\xbb\x2c\xc3\xd8\0\0\0\0\x06\0\0\0\x0a{\"a\":8.50}\0";
 
 #[test]
 fn a_run_leaves_its_commits_in_the_file(rt: HostRuntime) -> Result<(), Fail> {
     fs::write(&rt, "run.sirix", FIRST)?;
     for (script, output) in [
         (
-            b"open 1\ntext 0\nload 8.50\ncommit\n".as_slice(),
-            b"ok 1\nok 7\nok 2\nok 2 4102444800000\n".as_slice(),
+            b"open 1\ntext 0\nload { \"a\": 8.50 }\ncommit\nload 9\nquit\ncommit".as_slice(),
+            b"ok 1\nok [7]\nok 3\nok 2 4102444800000\nok 6\n".as_slice(),
         ),
-        (b"open 2\ntext 0\n", b"ok 2\nok 8.50\n"),
+        (b"open latest\ntext 0\n", b"ok 2\nok {\"a\":8.50}\n"),
     ] {
         replies(&rt, rt.alloc(), "run.sirix", script, output)?;
         has(&rt, "run.sirix", BOTH)?;

@@ -2,6 +2,22 @@
 #![tactic(auto)]
 
 #[cfg(test)]
+mod checks;
+#[cfg(test)]
+mod crashes;
+#[cfg(test)]
+mod damage;
+#[cfg(test)]
+mod documents;
+#[cfg(test)]
+mod faults;
+#[cfg(test)]
+mod forged;
+#[cfg(test)]
+mod lines;
+#[cfg(test)]
+mod revisions;
+#[cfg(test)]
 mod run;
 #[cfg(test)]
-mod tests;
+mod streams;

@@ -2,7 +2,7 @@ ghost use Rattle.std.specs.Prelude.{◌≡◌, IfOk, vec_len};
 
 use std::alloc::{AllocError, Global};
 use std::sync::Wait;
-use sx_outside::{Clock, MemSink, MemSource, OpenGate};
+use sx_outside::{Clock, MemSink, MemSource, OpenGate, Sink, Source};
 use sx_shell::{Status, run_live};
 use sx_volume::{MemEnd, MemVolume};
 
@@ -39,11 +39,16 @@ pub(crate) fn run<R: Wait, C: Clock>(
     failing: Failing,
     clock: &mut C,
 ) -> Result<Ran, AllocError> {
-    let words = [
-        String::from_str(alloc, "live")?,
-        String::from_str(alloc, "file")?,
-    ];
+    let words = live_words(alloc)?;
     run_words(rt, alloc, &words, start, script, most, failing, clock)
+}
+
+/// The words of the command.
+fn live_words(alloc: Global) -> Result<Vec<String>, AllocError> {
+    let mut words = Vec::new(alloc);
+    words.push(String::from_str(alloc, "live")?)?;
+    words.push(String::from_str(alloc, "file")?)?;
+    Ok(words)
 }
 
 /// The same for any words.
@@ -81,6 +86,30 @@ pub(crate) fn run_words<R: Wait, C: Clock>(
         output: sink.bytes().to_vec(alloc)?,
         volume,
     })
+}
+
+/// Runs `live` over an empty volume, with this source and this sink.
+pub(crate) fn run_between<R: Wait, S: Source, K: Sink, C: Clock>(
+    rt: &R,
+    alloc: Global,
+    source: &mut S,
+    sink: &mut K,
+    clock: &mut C,
+) -> Result<Status, AllocError> {
+    let words = live_words(alloc)?;
+    let mut volume = MemVolume::new(alloc, Vec::new(alloc), Vec::new(alloc))?;
+    let mut ends = make_ends(alloc)?;
+    Ok(run_live(
+        rt,
+        alloc,
+        &words,
+        &mut volume,
+        &mut ends,
+        source,
+        sink,
+        clock,
+        &OpenGate,
+    ))
 }
 
 // The ends of all clients, none of which fails.

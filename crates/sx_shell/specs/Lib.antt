@@ -1,12 +1,10 @@
-pub mod Body
 pub mod Code
 pub mod Crash
-pub mod Ends
-pub mod Meant
+pub mod Desk
+pub mod Done
+pub mod Live
 pub mod Outcome
 pub mod Progress
 pub mod Said
-pub mod Served
 pub mod Shows
-pub mod Waiting
 pub mod Words

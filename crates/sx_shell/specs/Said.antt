@@ -1,26 +1,20 @@
--- What the shell reads in a line.
-use Rattle.std.specs.Prelude.{ℕ, List}
-use Rattle.sx_model.specs.Edit.{load}
-use Rattle.sx_model.specs.NumberDocuments.{number}
-use Rattle.sx_run.specs.Command.{Command, Spells, edit, commit, open_number, ask_text}
-use Rattle.sx_run.specs.Line.{Item, skipped, no_command, command}
-use Rattle.sx_shell.specs.declared.line.Said.{Said}
-use Rattle.sx_shell.specs.declared.line.Said.TheVariants.{Skipped, NoCommand, Load, Commit, Open, Text}
+-- What is said of a commit.
+use Rattle.std.specs.Prelude.{◌≡◌, Result, Ok, Err}
+use Rattle.sx_run.specs.declared.reply.Said.{Said}
+use Rattle.sx_run.specs.declared.reply.Said.TheVariants as said
+use Rattle.sx_store.specs.declared.fault.CommitFault.{CommitFault}
+use Rattle.sx_store.specs.declared.fault.CommitFault.TheVariants as faults
+use Rattle.sx_store.specs.declared.fault.Committed.{Committed}
 
--- the item that was read
-abbrev pub item_of : Said → Item
-item_of Skipped = skipped
-item_of NoCommand = no_command
-item_of (Load literal) = command (edit (load (number literal)))
-item_of Commit = command commit
-item_of (Open revision) = command (open_number revision)
-item_of Text = command ask_text
-
--- the line, without its carriage return, spells the command, or none
-abbrev pub IsSpelt : List ℕ → Said → Type 0
-IsSpelt line Skipped = ⊥
-IsSpelt line NoCommand = (said : Command) → Spells line said → ⊥
-IsSpelt line (Load literal) = Spells line (edit (load (number literal)))
-IsSpelt line Commit = Spells line commit
-IsSpelt line (Open revision) = Spells line (open_number revision)
-IsSpelt line Text = Spells line ask_text
+-- A commit that ended so is told by this reply. Want of memory is told by none.
+abbrev pub IsSaidOf : {X : Type 0} → Result Committed CommitFault → Result Said X → Type 0
+IsSaidOf (Ok done) (Ok reply) = reply ≡ said.Committed done.revision done.time
+IsSaidOf (Ok done) (Err e) = ⊥
+IsSaidOf (Err (faults.Stopped stage)) (Ok reply) = reply ≡ said.Stopped stage
+IsSaidOf (Err (faults.Stopped stage)) (Err e) = ⊥
+IsSaidOf (Err (faults.CommitTooLarge bytes)) (Ok reply) = reply ≡ said.CommitTooLarge bytes
+IsSaidOf (Err (faults.CommitTooLarge bytes)) (Err e) = ⊥
+IsSaidOf (Err faults.OutOfMemory) (Ok reply) = ⊥
+IsSaidOf (Err faults.OutOfMemory) (Err e) = Unit {0}
+IsSaidOf (Err (faults.Failed stage)) (Ok reply) = reply ≡ said.FailedStage stage
+IsSaidOf (Err (faults.Failed stage)) (Err e) = ⊥

@@ -1,29 +1,23 @@
--- What the shell's state stands for.
-use Rattle.std.specs.Prelude.{ℕ, ℤ, ◌≡◌, ◌≤◌, List, Option, length}
-use Rattle.sx_layout.specs.Stands.{groups_of}
-use Rattle.sx_model.specs.Commit.{state_of}
-use Rattle.sx_model.specs.NumberDocuments.{IsOfNumber}
-use Rattle.sx_model.specs.TreeText.{document_text}
-use Rattle.sx_run.specs.Run.{Course, current}
-use Rattle.sx_shell.specs.Body.{body_of}
-use Rattle.sx_shell.specs.declared.desk.Desk.{Desk}
+-- What the shell's desk stands for.
+use Rattle.std.specs.Prelude.{ℕ, ℤ, ◌≡◌, ◌≤◌, List, length, map, get_or, Option}
+use Rattle.sx_run.specs.Client.{client_count}
+use Rattle.sx_run.specs.Run.{Book, Client, Course}
+use Rattle.sx_store.specs.Shows as store
+use Rattle.sx_store.specs.Shows.{count_of}
+use Rattle.sx_store.specs.Sound.{IsSound}
+use Rattle.sx_store.specs.declared.ledger.Ledger.{Ledger}
+use Rattle.sx_volume.specs.declared.volume.Volume.{Ghosts}
 
-pub record Shows (desk : Desk) (course : Course) : Type 0 where
-  pub groups : desk.log ≡ groups_of course.commits
-  pub child : body_of desk.child ≡ document_text (current course).trees
-  pub next : desk.next ≡ (current course).next
-  pub revision : desk.revision ≡ course.revision
-  pub opened : course.revision ≤ length course.commits
-  pub number : IsOfNumber (current course)
-  pub numbers : (r : ℕ) → IsOfNumber (state_of course.commits r)
+abbrev pub revisions_of : List Client → List ℕ
+revisions_of clients = map (λ client. client.revision) clients
 
--- From each course that the old desk shows there is a step to one that the new desk shows, with the clock's moments.
-abbrev pub Serves : (Course → Course → Type 0) → Option (List ℤ) → Option (List ℤ) → Desk → Desk → Type 0
-Serves step before after old new =
-    (course : Course) → Shows old course → course.moments ≡ before
-    → (next : Course) × step course next × Shows new next × (next.moments ≡ after)
+pub record Shows (ledger : Ledger) (revisions : List ℕ) (moments : Option (List ℤ)) (course : Course) : Type 0 where
+  pub book : store.Shows ledger course.book
+  pub clients : revisions ≡ revisions_of course.clients
+  pub count : length course.clients ≡ client_count
+  pub moments_are : course.moments ≡ moments
 
--- the same for a step that asks no clock
-abbrev pub Steps : (Course → Course → Type 0) → Desk → Desk → Type 0
-Steps step old new =
-    (course : Course) → Shows old course → (next : Course) × step course next × Shows new next × (next.moments ≡ course.moments)
+-- Whatever the volume stands for: it has what the ledger has, and each client's revision is there.
+pub record IsReady {V S E : Type 0} (g : Ghosts V S E) (volume : V) (ledger : Ledger) (revisions : List ℕ) : Type 0 where
+  pub sound : IsSound (g.bytes volume) (g.size volume) (g.is_image volume) ledger
+  pub there : (client : ℕ) → get_or revisions client 0 ≤ count_of ledger

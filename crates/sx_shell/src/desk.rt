@@ -1,235 +1,207 @@
-ghost use Rattle.std.specs.Prelude.{◌≡◌, ◌≢◌, ◌<◌, ◌≤◌, ◌^◌, [], ℤ, ℕ, List, Option, FitsSigned, length, IfOk, IfSome, OnOk, OnErr, IsErrOf, is_some};
-ghost use Rattle.std.specs.Int.{int_max, w64};
-ghost use Rattle.sx_layout.specs.Damage.{IsBody};
-ghost use Rattle.sx_layout.specs.Group.{last_time};
-ghost use Rattle.sx_layout.specs.Stands.{groups_of};
-ghost use Rattle.sx_outside.specs.Clock.{Ticks};
-ghost use Rattle.sx_model.specs.Commit.{Commit, IsLegal, first_time, replay, state_of};
-ghost use Rattle.sx_model.specs.Edit.{load};
-ghost use Rattle.sx_model.specs.State.{empty_document};
-ghost use Rattle.sx_model.specs.NumberDocuments.{number, AreOfNumbers};
-ghost use Rattle.sx_model.specs.TreeText.{document_text};
-ghost use Rattle.sx_shell.specs.Body.{body_of};
-ghost use Rattle.sx_outside.specs.Faults.{Rose};
-ghost use Rattle.sx_plain.specs.Keeps.{Keeps};
-ghost use Rattle.sx_run.specs.Command.{edit, commit, open_number, ask_text};
-ghost use Rattle.sx_run.specs.Line.{command, no_command, Says};
-ghost use Rattle.sx_run.specs.Run.{Course, Gives, Step, started};
-ghost use Rattle.sx_volume.specs.Images.{Elapses};
-ghost use Rattle.sx_tree.specs.Number.{IsLiteral, IsNumber};
+ghost use Rattle.std.specs.Prelude.{◌≡◌, ◌≢◌, ◌<◌, ℕ, ℤ, List, Option, Some, None, IfOk};
+ghost use Rattle.sx_model.specs.Edit.{edit_of};
+ghost use Rattle.sx_model.specs.LoadDocuments.{IsLoad};
+ghost use Rattle.sx_run.specs.Client.{client_count};
+ghost use Rattle.sx_run.specs.Run.{Answers, Course, edited_said};
+ghost use Rattle.sx_run.specs.declared.line.Command.TheVariants as commands;
+ghost use Rattle.sx_script.specs.Told.{IsTold};
+ghost use Rattle.sx_shell.specs.Desk.{IsAnswered, IsAsked, IsEnd, said_only, wanted};
+ghost use Rattle.sx_shell.specs.Done.{Continues, place};
+ghost use Rattle.sx_shell.specs.Said.{IsSaidOf};
+ghost use Rattle.sx_shell.specs.Shows.{IsReady, Shows};
+ghost use Rattle.sx_store.specs.Room.{room};
+ghost use Rattle.sx_store.specs.Shows.{stage_of};
 
-use crate::line::{Said, parse};
-use crate::reply::{Reply, render};
+use crate::Status;
 use std::alloc::{AllocError, Global};
 use sx_outside::Clock;
-use sx_plain::{CommitFault, Log};
-use sx_tree::literal::{Literal, LiteralFault};
+use sx_script::{Command, Said};
+use sx_store::{CommitFault, Committed, Writer, WriterFault};
+use sx_tree::edit::Edit;
+use sx_tree::query::{Query, Which};
 use sx_volume::Volume;
 
-/// Node numbers are below this one.
-const NUMBER_LIMIT: u32 = 1 << 30;
+/// The writer's client and 31 readers.
+pub(crate) const CLIENTS: usize = 32;
 
-/// Why a line ended the run.
-#[derive(Clone, Copy, Debug, PartialEq, Eq)]
-pub(crate) enum Stop {
-    OutOfMemory,
-    VolumeFailed,
-}
-
-impl From<AllocError> for Stop {
-    ghost use Rattle.std.specs.Prelude.{◌≡◌};
-    ghost use Rattle.sx_shell.specs.declared.desk.Stop.TheVariants.{OutOfMemory};
-
-    ghost from_gives = { λ _ e. e ≡ OutOfMemory };
-
-    fn from(_: AllocError) -> Self {
-        Stop::OutOfMemory
-    }
-}
-
-/// The commits, the state with the open edits applied, and the revision that is open.
+/// The writer, and the revision that each client has open.
 #[derive(Drop)]
-pub(crate) struct Desk {
-    pub(crate) log: Log,
-    pub(crate) child: Option<Literal>,
-    pub(crate) next: u32,
-    pub(crate) revision: usize,
-    ghost opened: { revision ≤ length log },
+pub(crate) struct Desk<'a, V: Volume> {
+    pub(crate) writer: Writer<'a, V>,
+    pub(crate) revisions: [u32; 32],
 }
 
-impl Desk {
-    ghost use Rattle.sx_shell.specs.Crash.{During, Failing, GrowsByOne};
-    ghost use Rattle.sx_shell.specs.Shows.{Shows, Serves, Steps};
-
-    /// The desk over the commits of a log, with revision 0 open.
-    pub(crate) fn new(alloc: Global, log: Log) -> Result<Self, AllocError>
-        ensures shows { IfOk result (λ desk. (commits : List Commit) (moments : Option (List ℤ)) → log ≡ groups_of commits → IsLegal commits → AreOfNumbers commits → Shows desk (started commits moments)) }
-        ensures same_log { IfOk result (λ desk. desk.log ≡ log) }
-    {
-        let child = last_child(alloc, &log)?;
-        let next = log.last_next();
-        Ok(Desk {
-            log,
-            child,
-            next,
-            revision: 0,
-        })
-    }
-
-    /// The reply to a line, which is empty where the line is skipped.
-    pub(crate) fn run_line<V: Volume, C: Clock>(
+impl<V: Volume> Desk<'_, V> {
+    /// What is said to a command of a client, other than `quit`. After want of memory the command has done nothing.
+    pub(crate) fn run<C: Clock>(
         &mut self,
         alloc: Global,
-        volume: &mut V,
         clock: &mut C,
-        line: &[u8],
-    ) -> Result<Vec<u8>, Stop>
-        requires kept { Keeps (V.bytes volume.old) (V.size volume.old) (V.is_image volume.old) self.old.log }
-        ensures ran { IfOk result (λ reply. Serves (λ course. Step course line.now reply.items) (C.moments clock.old) (C.moments clock.new) self.old self.new) }
-        ensures refused { OnErr result (self.new ≡ self.old) }
-        ensures kept { OnOk result (Keeps (V.bytes volume.new) (V.size volume.new) (V.is_image volume.new) self.new.log) }
-        ensures told { OnOk result (is_some (V.bytes volume.new) ≡ is_some (V.bytes volume.old)) }
-        ensures nothing_done { IsErrOf result Stop.OutOfMemory → (V.bytes volume.new ≡ V.bytes volume.old) × Keeps (V.bytes volume.new) (V.size volume.new) (V.is_image volume.new) self.old.log }
-        ensures during { (IsErrOf result Stop.VolumeFailed → ⊥) → During (V.bytes volume.old) (V.was_image volume.new (V.moment volume.old)) self.old self.new }
-        ensures failing { IsErrOf result Stop.VolumeFailed → Failing (V.bytes volume.old) (V.moment volume.old) (V.was_image volume.new) (V.synced volume.new) self.new (C.moments clock.old) }
-        ensures time { Elapses (V.moment volume.old) (V.moment volume.new) (V.was_image volume.old) (V.was_image volume.new) (V.synced volume.old) (V.synced volume.new) }
-        ensures grows { GrowsByOne self.old.log self.new.log (IsErrOf result Stop.VolumeFailed) }
-        ensures in_commit { IsErrOf result Stop.VolumeFailed → Says line.now (command commit) }
-        ensures cause { IsErrOf result Stop.VolumeFailed → Rose (V.faults volume.old) (V.faults volume.new) }
-        ensures never_falls { V.faults volume.old ≤ V.faults volume.new }
+        client: u32,
+        command: &Command,
+    ) -> Result<Said, AllocError>
+        requires ready { IsReady V.Volume self.old.writer.volume.now self.old.writer.ledger self.old.revisions }
+        requires known { client < client_count }
+        requires asked { IsAsked command.now }
+        ensures same_reference { self.new.writer.volume.ghost_name ≡ self.old.writer.volume.ghost_name }
+        ensures ready { IsReady V.Volume self.new.writer.volume.now self.new.writer.ledger self.new.revisions }
+        ensures continues { Continues V.Volume self.old.writer.volume.now self.new.writer.volume.now self.old.writer.ledger self.new.writer.ledger }
+        ensures told { IfOk result IsTold }
+        ensures answered { (course : Course) → Shows self.old.writer.ledger self.old.revisions (C.moments clock.old) course
+            → IsAnswered V.Volume (record {
+              course = course;
+              old = place self.old.writer.volume.now self.old.writer.ledger self.old.revisions None (C.moments clock.old);
+              new = place self.new.writer.volume.now self.new.writer.ledger self.new.revisions None (C.moments clock.new);
+            }) client command.now result }
     {
-        Ok(match parse(alloc, line)? {
-            Said::Skipped => Vec::new(alloc),
-            Said::NoCommand => render(alloc, &Reply::NoCommand)?,
-            Said::Load(literal) => self.load(alloc, literal)?,
-            Said::Open(revision) => self.open(alloc, revision)?,
-            Said::Text => self.text(alloc)?,
-            Said::Commit => return self.commit(alloc, volume, clock),
-        })
-    }
-
-    // The number becomes the Document's child, in the open edits.
-    fn load(&mut self, alloc: Global, literal: Literal) -> Result<Vec<u8>, AllocError>
-        requires { IsLiteral literal }
-        ensures ran { IfOk result (λ reply. Steps (λ course. Gives course (command (edit (load (number literal)))) reply.items) self.old self.new) }
-        ensures refused { OnErr result (self.new ≡ self.old) }
-        ensures same_log { self.new.log ≡ self.old.log }
-    {
-        if self.next >= NUMBER_LIMIT {
-            return render(alloc, &Reply::NumbersSpent(self.next));
-        }
-        let reply = render(alloc, &Reply::First(self.next))?;
-        self.next += 1;
-        self.child = Some(literal);
-        Ok(reply)
-    }
-
-    fn open(&mut self, alloc: Global, asked: u32) -> Result<Vec<u8>, AllocError>
-        ensures ran { IfOk result (λ reply. Steps (λ course. Gives course (command (open_number asked)) reply.items) self.old self.new) }
-        ensures refused { OnErr result (self.new ≡ self.old) }
-        ensures same_log { self.new.log ≡ self.old.log }
-    {
-        let seen = self.log.count();
-        let revision = asked as usize;
-        if revision > seen {
-            return render(alloc, &Reply::Missing { asked, seen });
-        }
-        let reply = render(alloc, &Reply::Opened(asked))?;
-        self.revision = revision;
-        Ok(reply)
-    }
-
-    fn text(&self, alloc: Global) -> Result<Vec<u8>, AllocError>
-        ensures { IfOk result (λ reply. (course : Course) → Shows self.now course → Gives course (command ask_text) reply.items course) }
-    {
-        let body = self.body();
-        if body.is_empty() {
-            render(alloc, &Reply::Empty)
-        } else {
-            render(alloc, &Reply::Text(body))
+        match command {
+            Command::Edit(edit) => self.edit(alloc, edit),
+            Command::Rollback => Ok(self.rollback()),
+            Command::Commit => self.commit(alloc, clock),
+            Command::Open(which) => Ok(self.open(client, *which)),
+            Command::Ask(query) => self.ask(alloc, client, query),
+            Command::Quit => unreachable!("quit ends the run"),
         }
     }
 
-    // The body of the revision that is open.
-    fn body(&self) -> &[u8]
-        ensures { (course : Course) → Shows self.now course → result.now ≡ document_text (state_of course.commits course.revision).trees }
+    /// How a run ends that comes to its end here.
+    pub(crate) fn end(&self) -> Status
+        ensures end { IsEnd (stage_of self.now.writer.ledger) result }
+        ensures no_read { result ≢ Status.ReadFault }
     {
-        if self.revision == 0 {
-            &[]
-        } else {
-            self.log.body(self.revision - 1)
+        match self.writer.ledger.stopped() {
+            Some(_) => Status::VolumeFault,
+            None => Status::Done,
         }
     }
 
-    // The time of a commit: the greater of the clock's moment and the last commit's time.
-    fn next_time<C: Clock>(&self, clock: &mut C) -> i64
-        ensures { (moment : ℤ) × FitsSigned w64 moment × Ticks (C.moments clock.old) moment (C.moments clock.new)
-            × (result ≡ int_max moment (last_time first_time self.now.log)) }
+    fn edit(&mut self, alloc: Global, edit: &Edit) -> Result<Said, AllocError>
+        requires ready { IsReady V.Volume self.old.writer.volume.now self.old.writer.ledger self.old.revisions }
+        requires load { IsLoad (edit_of edit.now) }
+        ensures same_reference { self.new.writer.volume.ghost_name ≡ self.old.writer.volume.ghost_name }
+        ensures ready { IsReady V.Volume self.new.writer.volume.now self.new.writer.ledger self.new.revisions }
+        ensures continues { Continues V.Volume self.old.writer.volume.now self.new.writer.volume.now self.old.writer.ledger self.new.writer.ledger }
+        ensures told { IfOk result IsTold }
+        ensures answered { (client : ℕ) (moments : Option (List ℤ)) (course : Course) → Shows self.old.writer.ledger self.old.revisions (moments) course
+            → IsAnswered V.Volume (record {
+              course = course;
+              old = place self.old.writer.volume.now self.old.writer.ledger self.old.revisions None (moments);
+              new = place self.new.writer.volume.now self.new.writer.ledger self.new.revisions None (moments);
+            }) client (commands.Edit edit.now) result }
     {
-        clock.now().max(self.log.last_time())
+        match self.writer.edit(alloc, edit) {
+            Ok(edited) => Ok(edited_said(edited.first)),
+            Err(WriterFault::Stopped { stage }) => Ok(Said::Stopped { stage }),
+            Err(WriterFault::Refused(refusal)) => Ok(Said::Refused(refusal)),
+            Err(WriterFault::OutOfMemory) => Err(AllocError),
+        }
     }
 
-    // Commits the open edits. The reply is made first, so that want of memory comes before anything is written.
-    fn commit<V: Volume, C: Clock>(
-        &mut self,
-        alloc: Global,
-        volume: &mut V,
-        clock: &mut C,
-    ) -> Result<Vec<u8>, Stop>
-        requires kept { Keeps (V.bytes volume.old) (V.size volume.old) (V.is_image volume.old) self.old.log }
-        ensures ran { IfOk result (λ reply. Serves (λ course. Gives course (command commit) reply.items) (C.moments clock.old) (C.moments clock.new) self.old self.new) }
-        ensures refused { OnErr result (self.new ≡ self.old) }
-        ensures kept { OnOk result (Keeps (V.bytes volume.new) (V.size volume.new) (V.is_image volume.new) self.new.log) }
-        ensures told { OnOk result (is_some (V.bytes volume.new) ≡ is_some (V.bytes volume.old)) }
-        ensures nothing_done { IsErrOf result Stop.OutOfMemory → (V.bytes volume.new ≡ V.bytes volume.old) × Keeps (V.bytes volume.new) (V.size volume.new) (V.is_image volume.new) self.old.log }
-        ensures during { (IsErrOf result Stop.VolumeFailed → ⊥) → During (V.bytes volume.old) (V.was_image volume.new (V.moment volume.old)) self.old self.new }
-        ensures failing { IsErrOf result Stop.VolumeFailed → Failing (V.bytes volume.old) (V.moment volume.old) (V.was_image volume.new) (V.synced volume.new) self.new (C.moments clock.old) }
-        ensures time { Elapses (V.moment volume.old) (V.moment volume.new) (V.was_image volume.old) (V.was_image volume.new) (V.synced volume.old) (V.synced volume.new) }
-        ensures grows { GrowsByOne self.old.log self.new.log (IsErrOf result Stop.VolumeFailed) }
-        ensures cause { IsErrOf result Stop.VolumeFailed → Rose (V.faults volume.old) (V.faults volume.new) }
-        ensures never_falls { V.faults volume.old ≤ V.faults volume.new }
+    fn rollback(&mut self) -> Said
+        requires ready { IsReady V.Volume self.old.writer.volume.now self.old.writer.ledger self.old.revisions }
+        ensures same_reference { self.new.writer.volume.ghost_name ≡ self.old.writer.volume.ghost_name }
+        ensures ready { IsReady V.Volume self.new.writer.volume.now self.new.writer.ledger self.new.revisions }
+        ensures continues { Continues V.Volume self.old.writer.volume.now self.new.writer.volume.now self.old.writer.ledger self.new.writer.ledger }
+        ensures told { IsTold result }
+        ensures answered { (client : ℕ) (moments : Option (List ℤ)) (course : Course) → Shows self.old.writer.ledger self.old.revisions (moments) course
+            → IsAnswered V.Volume (record {
+              course = course;
+              old = place self.old.writer.volume.now self.old.writer.ledger self.old.revisions None (moments);
+              new = place self.new.writer.volume.now self.new.writer.ledger self.new.revisions None (moments);
+            }) client commands.Rollback (said_only result) }
     {
-        let time = self.next_time(clock);
-        let revision = self.log.count() + 1;
-        let reply = render(alloc, &Reply::Committed { revision, time })?;
-        let body = text_of(&self.child);
-        match self.log.commit(alloc, volume, time, self.next, body) {
-            Ok(()) => Ok(reply),
-            Err(CommitFault::OutOfMemory) => Err(Stop::OutOfMemory),
-            Err(CommitFault::Failed { .. }) => Err(Stop::VolumeFailed),
+        self.writer.rollback();
+        Said::Done
+    }
+
+    fn commit<C: Clock>(&mut self, alloc: Global, clock: &mut C) -> Result<Said, AllocError>
+        requires ready { IsReady V.Volume self.old.writer.volume.now self.old.writer.ledger self.old.revisions }
+        ensures same_reference { self.new.writer.volume.ghost_name ≡ self.old.writer.volume.ghost_name }
+        ensures ready { IsReady V.Volume self.new.writer.volume.now self.new.writer.ledger self.new.revisions }
+        ensures continues { Continues V.Volume self.old.writer.volume.now self.new.writer.volume.now self.old.writer.ledger self.new.writer.ledger }
+        ensures told { IfOk result IsTold }
+        ensures answered { (client : ℕ) (course : Course) → Shows self.old.writer.ledger self.old.revisions (C.moments clock.old) course
+            → IsAnswered V.Volume (record {
+              course = course;
+              old = place self.old.writer.volume.now self.old.writer.ledger self.old.revisions None (C.moments clock.old);
+              new = place self.new.writer.volume.now self.new.writer.ledger self.new.revisions None (C.moments clock.new);
+            }) client commands.Commit result }
+    {
+        committed_said(self.writer.commit(alloc, clock))
+    }
+
+    // Opens the revision for the client, if it is there.
+    fn open(&mut self, client: u32, which: Which) -> Said
+        requires ready { IsReady V.Volume self.old.writer.volume.now self.old.writer.ledger self.old.revisions }
+        requires known { client < client_count }
+        ensures same_reference { self.new.writer.volume.ghost_name ≡ self.old.writer.volume.ghost_name }
+        ensures ready { IsReady V.Volume self.new.writer.volume.now self.new.writer.ledger self.new.revisions }
+        ensures continues { Continues V.Volume self.old.writer.volume.now self.new.writer.volume.now self.old.writer.ledger self.new.writer.ledger }
+        ensures told { IsTold result }
+        ensures answered { (moments : Option (List ℤ)) (course : Course) → Shows self.old.writer.ledger self.old.revisions (moments) course
+            → IsAnswered V.Volume (record {
+              course = course;
+              old = place self.old.writer.volume.now self.old.writer.ledger self.old.revisions None (moments);
+              new = place self.new.writer.volume.now self.new.writer.ledger self.new.revisions None (moments);
+            }) client (commands.Open which) (said_only result) }
+    {
+        let seen = self.writer.ledger.count();
+        let asked = wanted(which, seen);
+        if asked > seen {
+            return Said::Missing { asked, seen };
         }
+        self.revisions[client as usize] = asked;
+        Said::Opened(asked)
+    }
+
+    fn ask(&self, alloc: Global, client: u32, query: &Query) -> Result<Said, AllocError>
+        requires ready { IsReady V.Volume self.now.writer.volume.now self.now.writer.ledger self.now.revisions }
+        requires known { client < client_count }
+        requires asked { query.now ≡ Query.Text 0 }
+        ensures told { IfOk result IsTold }
+        ensures answered { IfOk result (λ said. (moments : Option (List ℤ)) (course : Course) → Shows self.now.writer.ledger self.now.revisions moments course
+            → Answers room course client (commands.Ask query.now) said course) }
+    {
+        let revision = self.revisions[client as usize];
+        let answer = self.writer.answer(alloc, revision, query)?;
+        Ok(Said::Answer(answer))
     }
 }
 
-// The text of the Document's child, or nothing.
-fn text_of(child: &Option<Literal>) -> &[u8]
-    ensures text { result.now ≡ body_of child.now }
-    ensures short { length result.now ≤ 64 }
+// What is said of an accepted edit, by its first new number.
+fn edited_said(first: Option<u32>) -> Said
+    ensures said { result ≡ edited_said first }
+    ensures told { IsTold result }
 {
-    match child {
-        Some(literal) => literal.as_bytes(),
-        None => &[],
+    match first {
+        Some(number) => Said::First(number),
+        None => Said::Done,
     }
 }
 
-// What the last commit left below the Document.
-fn last_child(alloc: Global, log: &Log) -> Result<Option<Literal>, AllocError>
-    ensures { IfOk result (λ child. (commits : List Commit) → log.now ≡ groups_of commits → IsLegal commits → AreOfNumbers commits → body_of child ≡ document_text (replay commits empty_document).trees) }
+// What is said of a commit that ended so. After want of memory nothing is.
+fn committed_said(ended: Result<Committed, CommitFault>) -> Result<Said, AllocError>
+    ensures said { IsSaidOf ended result }
+    ensures told { IfOk result IsTold }
 {
-    let count = log.count();
-    if count == 0 {
-        return Ok(None);
+    match ended {
+        Ok(done) => Ok(Said::Committed {
+            revision: done.revision,
+            time: done.time,
+        }),
+        Err(CommitFault::Stopped { stage }) => Ok(Said::Stopped { stage }),
+        Err(CommitFault::CommitTooLarge { bytes }) => Ok(Said::CommitTooLarge { bytes }),
+        Err(CommitFault::OutOfMemory) => Err(AllocError),
+        Err(CommitFault::Failed { stage }) => Ok(Said::FailedStage { stage }),
     }
-    child_of(alloc, log.body(count - 1))
 }
 
-// The number of which this is the text.
-fn child_of(alloc: Global, body: &[u8]) -> Result<Option<Literal>, AllocError>
-    ensures { IfOk result (λ child. IsBody body.now → body.now ≡ body_of child) }
+// The revision that is wanted, where so many commits are seen.
+fn wanted(which: Which, seen: u32) -> u32
+    ensures { result ≡ wanted which seen }
 {
-    match Literal::new(alloc, body) {
-        Ok(literal) => Ok(Some(literal)),
-        Err(LiteralFault::OutOfMemory) => Err(AllocError),
-        Err(_) => Ok(None),
+    match which {
+        Which::Latest => seen,
+        Which::Number(revision) => revision,
     }
 }

@@ -2,9 +2,7 @@
 #![tactic(auto)]
 
 mod desk;
-mod line;
-mod reader;
-mod reply;
+mod serve;
 mod shell;
 mod status;
 mod words;

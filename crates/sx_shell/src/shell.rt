@@ -1,41 +1,41 @@
-ghost use Rattle.std.specs.Prelude.{◌≡◌, ◌≢◌, ◌<◌, ◌≤◌, ◌++◌, ◌↔◌, ◌⊎◌, [], List, ℕ, ℤ, Option, Some, IfSome, IfErr, OnOk, OnErr, IsErrOf, is_some, length, map, slice_get, vec_len, Err};
+ghost use Rattle.std.specs.Prelude.{◌≡◌, ◌≢◌, ◌≤◌, ◌++◌, ◌↔◌, ◌⊎◌, List, ℕ, Option, Some, None, IfSome, IsSome, map, vec_len};
 ghost use Rattle.std.specs.String.{string_bytes};
-ghost use Rattle.sx_outside.specs.Faults.{Rose};
-ghost use Rattle.sx_plain.specs.Keeps.{Keeps};
 ghost use Rattle.sx_bytes.specs.declared.damage.Damage.{Damage};
 ghost use Rattle.sx_layout.specs.Damage.{IsDamaged};
 ghost use Rattle.sx_layout.specs.Stands.{Stands};
-ghost use Rattle.sx_plain.specs.Reading.{Explains};
 ghost use Rattle.sx_model.specs.Commit.{Commit};
-ghost use Rattle.sx_run.specs.Run.{Course, Step, started};
-ghost use Rattle.sx_shell.specs.Crash.{ClimbsFrom, During, Failing, GrowsByOne, IsSafe, IsUnopened};
-ghost use Rattle.sx_shell.specs.Ends.{IsAfterOpening, IsInLine};
-ghost use Rattle.sx_shell.specs.Outcome.{CommitFailed, Outcome};
-ghost use Rattle.sx_shell.specs.Progress.{Progress, Ended, Advanced};
-ghost use Rattle.sx_shell.specs.Served.{IsServed};
-ghost use Rattle.sx_shell.specs.Shows.{Shows};
-ghost use Rattle.sx_shell.specs.Waiting.{waiting};
+ghost use Rattle.sx_outside.specs.Faults.{Rose};
+ghost use Rattle.sx_run.specs.Run.{Course, started};
+ghost use Rattle.sx_script.specs.Waiting.{nothing_taken};
+ghost use Rattle.sx_shell.specs.Desk.{IsEndOf, IsRead};
+ghost use Rattle.sx_shell.specs.Done.{Continues, place};
+ghost use Rattle.sx_shell.specs.Live.{HasNoFault, HasRun, IsAfterOpening, IsKept, IsWhole};
+ghost use Rattle.sx_shell.specs.Progress.{Advanced, Ended, Progress, Start};
+ghost use Rattle.sx_shell.specs.Shows.{IsReady, Shows};
 ghost use Rattle.sx_shell.specs.Words.{IsLive};
-ghost use Rattle.sx_volume.specs.Images.{Elapses};
+ghost use Rattle.sx_store.specs.Opening.{Explains};
+ghost use Rattle.sx_store.specs.Shows.{stage_of};
 
 use crate::Status;
-use crate::desk::{Desk, Stop};
-use crate::reader::{LineReader, PullFault, Pulled};
+use crate::desk::Desk;
+use crate::serve::serve;
 use crate::words::is_live;
-use crate::write::write_all;
 use std::alloc::Global;
 use std::sync::Wait;
 use sx_outside::{Clock, Gate, Sink, Source};
-use sx_plain::LogFault;
+use sx_script::{Line, LineReader, PullFault, Pulled, command};
+use sx_store::{LogFault, Writer, open_one};
 use sx_volume::Volume;
 
 /// Does all that `sirix live FILE` does: opens the volume, runs the script that the source gives, and writes
-/// the replies to the sink.
+/// the replies to the sink, each before more of the source is asked for.
 ///
-/// The words are those behind the program's name. End 0 is for the writer's client, and end i for reader i;
+/// The words are those behind the program's name. End 0 is for the writer's client `w`, and end i for reader i;
 /// they and the gate are not used yet.
-/// `Usage` comes exactly where the words are no command; `ReadFault`, `WriteFault` and `VolumeFault` only where the
-/// source, the sink or the volume failed; `Damaged` where a group of the volume breaks a rule, for the first that does.
+///
+/// `Usage` comes exactly where the words are no command, and then nothing is touched; `ReadFault` and `WriteFault` only where the
+/// source or the sink failed; `VolumeFault` where the volume failed, at opening, or at the end of the input or at `quit` where it
+/// failed in a commit; `Damaged` where a group of the volume breaks a rule, for the first that does.
 pub fn run_live<R: Wait, V: Volume, S: Source, K: Sink, C: Clock, G: Gate>(
     rt: &R,
     alloc: Global,
@@ -49,30 +49,36 @@ pub fn run_live<R: Wait, V: Volume, S: Source, K: Sink, C: Clock, G: Gate>(
 ) -> Status
     requires { vec_len ends.old ≡ 32 }
 
-    // Over a volume that stands for some commits, the bytes written are those of a run that begins over these, over the
-    // script's lines, as far as the status says, and the volume then stands for the commits of that run. A crash at any
-    // moment leaves commits of that run.
+    // Over a volume that stands for some commits, the bytes written are those of a run that begins over these, over the script's
+    // items, as far as the status says, and the volume then stands for the commits of that run. A crash at any moment leaves
+    // commits of that run.
     ensures run { (image input before : List ℕ) (commits : List Commit) → V.bytes volume.old ≡ Some image → Stands image commits
         → S.left source.old ≡ Some input → K.written sink.old ≡ Some before
-        → (left written : List ℕ) × (end : Course) × (S.left source.new ≡ Some left) × (K.written sink.new ≡ Some (before ++ written))
-        × Outcome (started commits (C.moments clock.old)) input left result written end
-        × (result ≢ Status.VolumeFault → (final : List ℕ) × (V.bytes volume.new ≡ Some final) × Stands final end.commits)
-        × (IsSafe (started commits (C.moments clock.old)) end ((result ≡ Status.VolumeFault) × CommitFailed (started commits (C.moments clock.old)) input written end) (V.moment volume.old) (V.moment volume.new) (V.is_image volume.old) (V.is_image volume.new) (V.was_image volume.new) (V.synced volume.old) (V.synced volume.new)
-        ⊎ IsUnopened (started commits (C.moments clock.old)) end result written (V.moment volume.old) (V.is_image volume.old) (V.was_image volume.new) (V.synced volume.old) (V.synced volume.new)) }
+        → (left written : List ℕ) × (S.left source.new ≡ Some left) × (K.written sink.new ≡ Some (before ++ written))
+        × HasRun V.Volume volume.old volume.new (started commits (C.moments clock.old)) (record { input = input; left = left; written = written }) result }
 
     // Where no count of faults rises, all of the script is run, unless memory runs out.
     ensures complete { IsLive (map string_bytes words.now) → (image : List ℕ) (commits : List Commit) → V.bytes volume.old ≡ Some image → Stands image commits
         → (Rose (S.faults source.old) (S.faults source.new) → ⊥) → (Rose (K.faults sink.old) (K.faults sink.new) → ⊥) → (Rose (V.faults volume.old) (V.faults volume.new) → ⊥)
         → (result ≡ Status.Done) ⊎ (result ≡ Status.OutOfMemory) }
 
+    // Over a volume that keeps the rules, whatever it stands for, all that it has is kept, and a crash leaves it.
+    ensures kept { IsLive (map string_bytes words.now) → (image : List ℕ) → V.bytes volume.old ≡ Some image → IsWhole image → IsKept V.Volume volume.old volume.new image result }
+
     ensures usage { (result ≡ Status.Usage) ↔ (IsLive (map string_bytes words.now) → ⊥) }
+    ensures untouched { result ≡ Status.Usage → (volume.new ≡ volume.old) × (source.new ≡ source.old) × (sink.new ≡ sink.old) × (clock.new ≡ clock.old) }
+    ensures done { result ≡ Status.Done → (S.faults source.new ≡ S.faults source.old) × (K.faults sink.new ≡ K.faults sink.old) × (V.faults volume.new ≡ V.faults volume.old) }
     ensures read_fault { result ≡ Status.ReadFault → Rose (S.faults source.old) (S.faults source.new) }
     ensures write_fault { result ≡ Status.WriteFault → Rose (K.faults sink.old) (K.faults sink.new) }
     ensures volume_fault { result ≡ Status.VolumeFault → Rose (V.faults volume.old) (V.faults volume.new) }
     ensures damaged { (damage : Damage) → result ≡ Status.Damaged damage → Explains (V.bytes volume.old) damage }
+    ensures damaged_alone { (damage : Damage) → result ≡ Status.Damaged damage
+        → (source.new ≡ source.old) × (sink.new ≡ sink.old) × (V.bytes volume.new ≡ V.bytes volume.old) }
     ensures damaged_exactly { IsLive (map string_bytes words.now) → (image : List ℕ) (damage : Damage) → V.bytes volume.old ≡ Some image → IsDamaged image damage
-        → (result ≡ Status.Damaged damage) ⊎ (result ≡ Status.VolumeFault) ⊎ (result ≡ Status.OutOfMemory) }
-    ensures damaged_alone { (damage : Damage) → result ≡ Status.Damaged damage → (K.written sink.new ≡ K.written sink.old) × (V.bytes volume.new ≡ V.bytes volume.old) }
+        → ((result ≡ Status.Damaged damage) ⊎ (result ≡ Status.VolumeFault) ⊎ (result ≡ Status.OutOfMemory))
+        × (source.new ≡ source.old) × (sink.new ≡ sink.old) × (result ≢ Status.VolumeFault → V.bytes volume.new ≡ V.bytes volume.old) }
+    ensures told { IsSome (V.bytes volume.old) → IsSome (V.bytes volume.new) }
+    ensures ends { vec_len ends.new ≡ 32 }
     ensures source_faults { S.faults source.old ≤ S.faults source.new }
     ensures sink_faults { K.faults sink.old ≤ K.faults sink.new }
     ensures volume_faults { V.faults volume.old ≤ V.faults volume.new }
@@ -80,51 +86,57 @@ pub fn run_live<R: Wait, V: Volume, S: Source, K: Sink, C: Clock, G: Gate>(
     if !is_live(words) {
         return Status::Usage;
     }
-    let log = match sx_plain::open(alloc, volume) {
-        Ok(log) => log,
+    let ledger = match open_one(alloc, volume) {
+        Ok(ledger) => ledger,
         Err(LogFault::Failed) => return Status::VolumeFault,
         Err(LogFault::Damaged(damage)) => return Status::Damaged(damage),
         Err(LogFault::OutOfMemory) => return Status::OutOfMemory,
     };
-    let Ok(mut desk) = Desk::new(alloc, log) else {
-        return Status::OutOfMemory;
+    let mut desk = Desk {
+        writer: Writer { volume, ledger },
+        revisions: [0; 32],
     };
-    drive(rt, alloc, &mut desk, volume, source, sink, clock)
+    let status = drive(rt, alloc, &mut desk, source, sink, clock);
+    let Desk { writer, .. } = desk;
+    let Writer { volume, ledger } = writer;
+    take_back(volume);
+    drop(ledger);
+    status
 }
+
+// The volume that a writer held is the caller's again.
+fn take_back<V>(volume: &mut V)
+    ensures { volume.new ≡ volume.old }
+{}
 
 // Runs the script from its first line on.
 fn drive<R: Wait, V: Volume, S: Source, K: Sink, C: Clock>(
     rt: &R,
     alloc: Global,
-    desk: &mut Desk,
-    volume: &mut V,
+    desk: &mut Desk<'_, V>,
     source: &mut S,
     sink: &mut K,
     clock: &mut C,
 ) -> Status
-    requires kept { Keeps (V.bytes volume.old) (V.size volume.old) (V.is_image volume.old) desk.old.log }
-    // Before the line that ended the run the clock had these moments to come.
-    ensures ended { (moments : Option (List ℤ))
-        × ((start : Course) (input before : List ℕ) → S.left source.old ≡ Some input → K.written sink.old ≡ Some before
-        → Shows desk.old start → start.moments ≡ C.moments clock.old
-        → Ended start input before (S.left source.new) (K.written sink.new) desk.new moments result)
-        × ClimbsFrom (V.bytes volume.old) (V.was_image volume.new) (V.synced volume.new) (V.moment volume.old) (V.moment volume.new) desk.old desk.new moments (result ≡ Status.VolumeFault) }
-    ensures kept { result ≢ Status.VolumeFault → Keeps (V.bytes volume.new) (V.size volume.new) (V.is_image volume.new) desk.new.log }
-    ensures told { result ≢ Status.VolumeFault → is_some (V.bytes volume.new) ≡ is_some (V.bytes volume.old) }
-    ensures time { Elapses (V.moment volume.old) (V.moment volume.new) (V.was_image volume.old) (V.was_image volume.new) (V.synced volume.old) (V.synced volume.new) }
+    requires ready { IsReady V.Volume desk.old.writer.volume.now desk.old.writer.ledger desk.old.revisions }
+    requires going { stage_of desk.old.writer.ledger ≡ None }
+    ensures same_reference { desk.new.writer.volume.ghost_name ≡ desk.old.writer.volume.ghost_name }
+    ensures ready { IsReady V.Volume desk.new.writer.volume.now desk.new.writer.ledger desk.new.revisions }
+    ensures continues { Continues V.Volume desk.old.writer.volume.now desk.new.writer.volume.now desk.old.writer.ledger desk.new.writer.ledger }
+    ensures ran { (start : Start) → Progress V.Volume start (S.left source.old) nothing_taken (place desk.old.writer.volume.now desk.old.writer.ledger desk.old.revisions (K.written sink.old) (C.moments clock.old))
+        → Ended V.Volume start (S.left source.new) (place desk.new.writer.volume.now desk.new.writer.ledger desk.new.revisions (K.written sink.new) (C.moments clock.new)) result }
     ensures after_opening { IsAfterOpening result }
+    ensures ended { IsEndOf (stage_of desk.new.writer.ledger) (Some result) }
     ensures read_fault { result ≡ Status.ReadFault → Rose (S.faults source.old) (S.faults source.new) }
     ensures write_fault { result ≡ Status.WriteFault → Rose (K.faults sink.old) (K.faults sink.new) }
-    ensures volume_fault { result ≡ Status.VolumeFault → Rose (V.faults volume.old) (V.faults volume.new) }
+    ensures no_read_fault { result ≡ Status.Done → S.faults source.new ≡ S.faults source.old }
+    ensures no_write_fault { result ≡ Status.Done → K.faults sink.new ≡ K.faults sink.old }
     ensures source_faults { S.faults source.old ≤ S.faults source.new }
     ensures sink_faults { K.faults sink.old ≤ K.faults sink.new }
-    ensures volume_faults { V.faults volume.old ≤ V.faults volume.new }
 {
-    let Ok(mut reader) = LineReader::new(alloc) else {
-        return Status::OutOfMemory;
-    };
+    let mut reader = LineReader::new(alloc);
     for _ in rt.forever() {
-        if let Some(status) = advance(alloc, desk, &mut reader, volume, source, sink, clock) {
+        if let Some(status) = advance(alloc, desk, &mut reader, source, sink, clock) {
             return status;
         }
     }
@@ -134,74 +146,59 @@ fn drive<R: Wait, V: Volume, S: Source, K: Sink, C: Clock>(
 // Takes one step of reading, and runs the line that it gives, where it gives one. The result is how the run ended.
 fn advance<V: Volume, S: Source, K: Sink, C: Clock>(
     alloc: Global,
-    desk: &mut Desk,
+    desk: &mut Desk<'_, V>,
     reader: &mut LineReader,
-    volume: &mut V,
     source: &mut S,
     sink: &mut K,
     clock: &mut C,
 ) -> Option<Status>
-    requires kept { Keeps (V.bytes volume.old) (V.size volume.old) (V.is_image volume.old) desk.old.log }
-    ensures run { (start : Course) (input before : List ℕ)
-        → Progress start input before (S.left source.old) (K.written sink.old) (waiting reader.old) desk.old (C.moments clock.old)
-        → Advanced start input before (S.left source.new) (K.written sink.new) (waiting reader.new) desk.new (C.moments clock.old) (C.moments clock.new) result }
-    ensures kept { result ≢ Some Status.VolumeFault → Keeps (V.bytes volume.new) (V.size volume.new) (V.is_image volume.new) desk.new.log }
-    ensures told { result ≢ Some Status.VolumeFault → is_some (V.bytes volume.new) ≡ is_some (V.bytes volume.old) }
-    ensures during { result ≢ Some Status.VolumeFault → During (V.bytes volume.old) (V.was_image volume.new (V.moment volume.old)) desk.old desk.new }
-    ensures failing { result ≡ Some Status.VolumeFault → Failing (V.bytes volume.old) (V.moment volume.old) (V.was_image volume.new) (V.synced volume.new) desk.new (C.moments clock.old) }
-    ensures time { Elapses (V.moment volume.old) (V.moment volume.new) (V.was_image volume.old) (V.was_image volume.new) (V.synced volume.old) (V.synced volume.new) }
-    ensures grows { GrowsByOne desk.old.log desk.new.log (result ≡ Some Status.VolumeFault) }
-    ensures after_opening { IfSome result IsAfterOpening }
+    requires ready { IsReady V.Volume desk.old.writer.volume.now desk.old.writer.ledger desk.old.revisions }
+    ensures same_reference { desk.new.writer.volume.ghost_name ≡ desk.old.writer.volume.ghost_name }
+    ensures ready { IsReady V.Volume desk.new.writer.volume.now desk.new.writer.ledger desk.new.revisions }
+    ensures continues { Continues V.Volume desk.old.writer.volume.now desk.new.writer.volume.now desk.old.writer.ledger desk.new.writer.ledger }
+    ensures ran { (start : Start) → Progress V.Volume start (S.left source.old) reader.old (place desk.old.writer.volume.now desk.old.writer.ledger desk.old.revisions (K.written sink.old) (C.moments clock.old))
+        → Advanced V.Volume start (S.left source.new) reader.new (place desk.new.writer.volume.now desk.new.writer.ledger desk.new.revisions (K.written sink.new) (C.moments clock.new)) result }
+    ensures ended { IsEndOf (stage_of desk.new.writer.ledger) result }
     ensures read_fault { result ≡ Some Status.ReadFault → Rose (S.faults source.old) (S.faults source.new) }
     ensures write_fault { result ≡ Some Status.WriteFault → Rose (K.faults sink.old) (K.faults sink.new) }
-    ensures volume_fault { result ≡ Some Status.VolumeFault → Rose (V.faults volume.old) (V.faults volume.new) }
+    ensures no_read_fault { HasNoFault result → S.faults source.new ≡ S.faults source.old }
+    ensures no_write_fault { HasNoFault result → K.faults sink.new ≡ K.faults sink.old }
     ensures source_faults { S.faults source.old ≤ S.faults source.new }
     ensures sink_faults { K.faults sink.old ≤ K.faults sink.new }
-    ensures volume_faults { V.faults volume.old ≤ V.faults volume.new }
 {
     match reader.pull(source) {
-        Ok(Pulled::Line(line)) => serve(alloc, desk, volume, sink, clock, &line),
-        Ok(Pulled::Last(line)) => match serve(alloc, desk, volume, sink, clock, &line) {
-            None => Some(Status::Done),
-            Some(status) => Some(status),
-        },
+        Ok(Pulled::Line(line)) => read_line(alloc, desk, sink, clock, line.as_slice()),
+        Ok(Pulled::Long) => serve(alloc, desk, sink, clock, &Line::Refused { client: 0 }),
         Ok(Pulled::More) => None,
-        Ok(Pulled::End) => Some(Status::Done),
+        Ok(Pulled::End) => Some(desk.end()),
         Err(PullFault::Failed) => Some(Status::ReadFault),
         Err(PullFault::OutOfMemory) => Some(Status::OutOfMemory),
     }
 }
 
-// Runs one line and writes its reply. The result is how the run ended.
-fn serve<V: Volume, K: Sink, C: Clock>(
+// Reads what a line says, and serves it.
+fn read_line<V: Volume, K: Sink, C: Clock>(
     alloc: Global,
-    desk: &mut Desk,
-    volume: &mut V,
+    desk: &mut Desk<'_, V>,
     sink: &mut K,
     clock: &mut C,
     line: &[u8],
 ) -> Option<Status>
-    requires kept { Keeps (V.bytes volume.old) (V.size volume.old) (V.is_image volume.old) desk.old.log }
-    ensures served { (before : List ℕ) (course : Course) → K.written sink.old ≡ Some before → Shows desk.old course → course.moments ≡ C.moments clock.old
-        → IsServed course line.now before (K.written sink.new) (C.moments clock.new) desk.old desk.new result }
-    ensures kept { result ≢ Some Status.VolumeFault → Keeps (V.bytes volume.new) (V.size volume.new) (V.is_image volume.new) desk.new.log }
-    ensures told { result ≢ Some Status.VolumeFault → is_some (V.bytes volume.new) ≡ is_some (V.bytes volume.old) }
-    ensures during { result ≢ Some Status.VolumeFault → During (V.bytes volume.old) (V.was_image volume.new (V.moment volume.old)) desk.old desk.new }
-    ensures failing { result ≡ Some Status.VolumeFault → Failing (V.bytes volume.old) (V.moment volume.old) (V.was_image volume.new) (V.synced volume.new) desk.new (C.moments clock.old) }
-    ensures time { Elapses (V.moment volume.old) (V.moment volume.new) (V.was_image volume.old) (V.was_image volume.new) (V.synced volume.old) (V.synced volume.new) }
-    ensures grows { GrowsByOne desk.old.log desk.new.log (result ≡ Some Status.VolumeFault) }
-    ensures in_line { IfSome result IsInLine }
+    requires ready { IsReady V.Volume desk.old.writer.volume.now desk.old.writer.ledger desk.old.revisions }
+    ensures same_reference { desk.new.writer.volume.ghost_name ≡ desk.old.writer.volume.ghost_name }
+    ensures ready { IsReady V.Volume desk.new.writer.volume.now desk.new.writer.ledger desk.new.revisions }
+    ensures continues { Continues V.Volume desk.old.writer.volume.now desk.new.writer.volume.now desk.old.writer.ledger desk.new.writer.ledger }
+    ensures read { (course : Course) → Shows desk.old.writer.ledger desk.old.revisions (C.moments clock.old) course
+        → IsRead V.Volume course line.now (place desk.old.writer.volume.now desk.old.writer.ledger desk.old.revisions (K.written sink.old) (C.moments clock.old))
+        (place desk.new.writer.volume.now desk.new.writer.ledger desk.new.revisions (K.written sink.new) (C.moments clock.new)) result }
+    ensures ended { IsEndOf (stage_of desk.new.writer.ledger) result }
+    ensures no_read { result ≢ Some Status.ReadFault }
     ensures write_fault { result ≡ Some Status.WriteFault → Rose (K.faults sink.old) (K.faults sink.new) }
-    ensures volume_fault { result ≡ Some Status.VolumeFault → Rose (V.faults volume.old) (V.faults volume.new) }
-    ensures sink_faults { K.faults sink.old ≤ K.faults sink.new }
-    ensures volume_faults { V.faults volume.old ≤ V.faults volume.new }
+    ensures no_fault { result ≢ Some Status.WriteFault → K.faults sink.new ≡ K.faults sink.old }
+    ensures never_falls { K.faults sink.old ≤ K.faults sink.new }
 {
-    match desk.run_line(alloc, volume, clock, line) {
-        Ok(reply) => match write_all(sink, &reply) {
-            Ok(()) => None,
-            Err(_) => Some(Status::WriteFault),
-        },
-        Err(Stop::OutOfMemory) => Some(Status::OutOfMemory),
-        Err(Stop::VolumeFailed) => Some(Status::VolumeFault),
+    match command(alloc, line) {
+        Ok(said) => serve(alloc, desk, sink, clock, &said),
+        Err(_) => Some(Status::OutOfMemory),
     }
 }

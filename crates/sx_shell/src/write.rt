@@ -9,6 +9,7 @@ pub(crate) fn write_all<K: Sink>(sink: &mut K, bytes: &[u8]) -> Result<(), Faile
     ensures all { IfSome (K.written sink.old) (λ before. OnOk result (K.written sink.new ≡ Some (before ++ bytes.now))) }
     ensures front { IfSome (K.written sink.old) (λ before. OnErr result ((front : List ℕ) × (rest : List ℕ) × (bytes.now ≡ front ++ rest) × (K.written sink.new ≡ Some (before ++ front)))) }
     ensures cause { OnErr result (Rose (K.faults sink.old) (K.faults sink.new)) }
+    ensures no_fault { OnOk result (K.faults sink.new ≡ K.faults sink.old) }
     ensures never_falls { K.faults sink.old ≤ K.faults sink.new }
 {
     let mut rest = bytes;
@@ -25,6 +26,7 @@ fn write_some<'a, K: Sink>(sink: &mut K, bytes: &'a [u8]) -> Result<&'a [u8], Fa
     ensures put { IfOk result (λ rest. (front : List ℕ) × (bytes.now ≡ front ++ rest.now) × Gains (K.written sink.old) front (K.written sink.new)) }
     ensures nothing_written { OnErr result (Stays (K.written sink.old) (K.written sink.new)) }
     ensures cause { OnErr result (Rose (K.faults sink.old) (K.faults sink.new)) }
+    ensures no_fault { OnOk result (K.faults sink.new ≡ K.faults sink.old) }
     ensures never_falls { K.faults sink.old ≤ K.faults sink.new }
 {
     let n = sink.put(bytes)?;

@@ -1,87 +1,91 @@
-use Rattle.std.proofs.Common.{◌++◌, ℕ, List, [], Some, None, subst, refl}
-use Rattle.sx_shell.specs.Served.{IsServed}
-use Rattle.sx_shell.specs.Waiting.{Waiting, waiting, IsPulled}
-use Rattle.sx_shell.specs.declared.reader.Pulled.{Pulled}
-use Rattle.sx_shell.proofs.Progresses.{line_run, none_ended, read_stopped, read_failed, all_done, last_run, last_stopped}
+use Rattle.std.proofs.Common.{◌≡◌, ◌≢◌, ℕ, List, Option, Some, inl, inr, refl, sym, subst}
+use Rattle.sx_run.specs.declared.line.Line.TheVariants as lines
+use Rattle.sx_script.proofs.Following.{follow, follow_failed, follow_memory, given_front}
+use Rattle.sx_script.specs.Waiting.{IsAtEnd, IsPulled, IsUnpulled}
+use Rattle.sx_script.specs.declared.line_reader.PullFault.{PullFault}
+use Rattle.sx_script.specs.declared.line_reader.Pulled.{Pulled}
+use Rattle.sx_script.specs.declared.line_reader.Pulled.TheVariants as pulls
+use Rattle.sx_shell.proofs.Advancing.{more_advanced, short_ended, line_advanced, still_ended, end_outcome, failed_outcome, leads_still}
+use Rattle.sx_shell.specs.Desk.{IsRead}
+use Rattle.sx_shell.specs.Done.{place}
+use Rattle.sx_shell.specs.declared.status.Status.TheVariants as status
 use Rattle.sx_shell.proofs.shell.advance.Goals as goal
 
-pub returns-in-Ok-Line-clause-run : goal.returns-in-Ok-Line-clause-run
-returns-in-Ok-Line-clause-run g c = λ start input before p.
-    let left = g.S.Source.left c.args.source.now in
-    let now = g.S.Source.left c.pull.new.source in
-    let written = g.K.Sink.written c.args.sink.now in
-    let old : Waiting = waiting c.args.reader.now in
-    let new : Waiting = waiting c.pull.new.self in
+pub returns-in-Ok-Line-clause-ran : goal.returns-in-Ok-Line-clause-ran
+returns-in-Ok-Line-clause-ran g c = λ start p.
+    let before = g.S.Source.left c.args.source.now in
+    let after = g.S.Source.left c.pull.new.source in
     let step = c.in-Ok-Line.ensures.pulled in
-    let ends = subst (λ (pulled : Pulled). IsPulled old step.0 left now pulled new) c.in-Ok-Line.field-0-is step.2 in
-    let served = c.serve.ensures.served (before ++ p.out) p.course p.written_is p.shows p.moments_are in
-    let at_line = subst (λ (line : List ℕ). IsServed p.course line (before ++ p.out) (g.K.Sink.written c.serve.new.sink) (g.C.Clock.moments c.serve.new.clock) c.args.desk.now c.serve.new.desk c.serve.result) c.deref.ensures.value served in
-    line_run start input before left written old c.args.desk.now (g.C.Clock.moments c.args.clock.now) p now step.0 step.1
-    (g.K.Sink.written c.serve.new.sink) new c.serve.new.desk (g.C.Clock.moments c.serve.new.clock) c.in-Ok-Line.line.items ends c.serve.result at_line
+    let next = follow c.args.reader.now c.pull.new.self start.input p.rest step.0 p.given before after (pulls.Line c.in-Ok-Line.line) p.left_is step.2 p.at
+    (subst (λ (pulled : Pulled). IsPulled c.args.reader.now step.0 (IsAtEnd before after) pulled c.pull.new.self) c.in-Ok-Line.field-0-is step.3) in
+    line_advanced g.V.Volume start before c.args.reader.now (place c.args.desk.now.writer.volume.now c.args.desk.now.writer.ledger c.args.desk.now.revisions (g.K.Sink.written c.args.sink.now) (g.C.Clock.moments c.args.clock.now)) p after next.0 c.pull.new.self
+    (place c.read_line.new.desk.writer.volume.now c.read_line.new.desk.writer.ledger c.read_line.new.desk.revisions (g.K.Sink.written c.read_line.new.sink) (g.C.Clock.moments c.read_line.new.clock))
+    next.1 (c.read_line.ensures.continues.told p.told) c.in-Ok-Line.line next.2 c.read_line.result
+    (subst (λ (line : List ℕ). IsRead g.V.Volume p.course line (place c.args.desk.now.writer.volume.now c.args.desk.now.writer.ledger c.args.desk.now.revisions (g.K.Sink.written c.args.sink.now) (g.C.Clock.moments c.args.clock.now))
+    (place c.read_line.new.desk.writer.volume.now c.read_line.new.desk.writer.ledger c.read_line.new.desk.revisions (g.K.Sink.written c.read_line.new.sink) (g.C.Clock.moments c.read_line.new.clock)) c.read_line.result) c.as_slice.ensures (c.read_line.ensures.read p.course p.shows))
 
-pub returns-in-None-clause-run : goal.returns-in-None-clause-run
-returns-in-None-clause-run g c = λ start input before p.
-    let left = g.S.Source.left c.args.source.now in
-    let now = g.S.Source.left c.pull.new.source in
-    let written = g.K.Sink.written c.args.sink.now in
-    let old : Waiting = waiting c.args.reader.now in
-    let new : Waiting = waiting c.pull.new.self in
-    let step = c.in-Ok-Last.ensures.pulled in
-    let last = subst (λ (pulled : Pulled). IsPulled old step.0 left now pulled new) c.in-Ok-Last.field-0-is step.2 in
-    let served = c.in-None.ensures.served (before ++ p.out) p.course p.written_is p.shows p.moments_are in
-    let at_line = subst (λ (line : List ℕ). IsServed p.course line (before ++ p.out) (g.K.Sink.written c.serve-in-Ok-Last.new.sink) (g.C.Clock.moments c.serve-in-Ok-Last.new.clock) c.args.desk.now c.serve-in-Ok-Last.new.desk None) c.deref-in-Ok-Last.ensures.value served in
-    last_run start input before left written old c.args.desk.now (g.C.Clock.moments c.args.clock.now) p now step.0 step.1
-    (g.K.Sink.written c.serve-in-Ok-Last.new.sink) c.serve-in-Ok-Last.new.desk (g.C.Clock.moments c.serve-in-Ok-Last.new.clock) c.in-Ok-Last.line.items
-    last.0 last.1 last.2 last.3 last.4 at_line
+pub returns-in-Ok-Line-clause-read_fault : goal.returns-in-Ok-Line-clause-read_fault
+returns-in-Ok-Line-clause-read_fault g c = λ is. absurd (c.read_line.ensures.no_read is)
 
-pub returns-in-Ok-Last-clause-run : goal.returns-in-Ok-Last-clause-run
-returns-in-Ok-Last-clause-run g c = λ start input before p.
-    let left = g.S.Source.left c.args.source.now in
-    let now = g.S.Source.left c.pull.new.source in
-    let written = g.K.Sink.written c.args.sink.now in
-    let old : Waiting = waiting c.args.reader.now in
-    let new : Waiting = waiting c.pull.new.self in
-    let step = c.in-Ok-Last.ensures.pulled in
-    let last = subst (λ (pulled : Pulled). IsPulled old step.0 left now pulled new) c.in-Ok-Last.field-0-is step.2 in
-    let served = c.in-Some.ensures.served (before ++ p.out) p.course p.written_is p.shows p.moments_are in
-    let at_line = subst (λ (line : List ℕ). IsServed p.course line (before ++ p.out) (g.K.Sink.written c.serve-in-Ok-Last.new.sink) (g.C.Clock.moments c.serve-in-Ok-Last.new.clock) c.args.desk.now c.serve-in-Ok-Last.new.desk (Some c.in-Some.status)) c.deref-in-Ok-Last.ensures.value served in
-    last_stopped start input before left written old c.args.desk.now (g.C.Clock.moments c.args.clock.now) p now step.0 step.1
-    (g.K.Sink.written c.serve-in-Ok-Last.new.sink) c.serve-in-Ok-Last.new.desk (g.C.Clock.moments c.serve-in-Ok-Last.new.clock) c.in-Ok-Last.line.items
-    last.0 last.1 last.2 last.3 last.4 c.in-Some.status at_line
+pub returns-in-Ok-Long-clause-ran : goal.returns-in-Ok-Long-clause-ran
+returns-in-Ok-Long-clause-ran g c = λ start p.
+    let before = g.S.Source.left c.args.source.now in
+    let after = g.S.Source.left c.pull.new.source in
+    let step = c.in-Ok-Long.ensures.pulled in
+    let next = follow c.args.reader.now c.pull.new.self start.input p.rest step.0 p.given before after pulls.Long p.left_is step.2 p.at
+    (subst (λ (pulled : Pulled). IsPulled c.args.reader.now step.0 (IsAtEnd before after) pulled c.pull.new.self) c.in-Ok-Long.field-0-is step.3) in
+    line_advanced g.V.Volume start before c.args.reader.now (place c.args.desk.now.writer.volume.now c.args.desk.now.writer.ledger c.args.desk.now.revisions (g.K.Sink.written c.args.sink.now) (g.C.Clock.moments c.args.clock.now)) p after next.0 c.pull.new.self
+    (place c.serve.new.desk.writer.volume.now c.serve.new.desk.writer.ledger c.serve.new.desk.revisions (g.K.Sink.written c.serve.new.sink) (g.C.Clock.moments c.serve.new.clock))
+    next.1 (c.serve.ensures.continues.told p.told) next.2.0 next.2.2 c.serve.result (inl (lines.Refused 0, inr (next.2.1, refl), c.serve.ensures.served p.course p.shows))
 
-pub returns-in-Ok-More-clause-run : goal.returns-in-Ok-More-clause-run
-returns-in-Ok-More-clause-run g c = λ start input before p.
-    let left = g.S.Source.left c.args.source.now in
-    let now = g.S.Source.left c.pull.new.source in
-    let old : Waiting = waiting c.args.reader.now in
-    let new : Waiting = waiting c.pull.new.self in
+pub returns-in-Ok-Long-clause-read_fault : goal.returns-in-Ok-Long-clause-read_fault
+returns-in-Ok-Long-clause-read_fault g c = λ is. absurd (c.serve.ensures.no_read is)
+
+pub returns-in-Ok-More-clause-ran : goal.returns-in-Ok-More-clause-ran
+returns-in-Ok-More-clause-ran g c = λ start p.
+    let before = g.S.Source.left c.args.source.now in
+    let after = g.S.Source.left c.pull.new.source in
     let step = c.in-Ok-More.ensures.pulled in
-    let goes = subst (λ (pulled : Pulled). IsPulled old step.0 left now pulled new) c.in-Ok-More.field-0-is step.2 in
-    none_ended start input before left (g.K.Sink.written c.args.sink.now) old c.args.desk.now (g.C.Clock.moments c.args.clock.now) p now step.0 step.1 new goes
+    let next = follow c.args.reader.now c.pull.new.self start.input p.rest step.0 p.given before after pulls.More p.left_is step.2 p.at
+    (subst (λ (pulled : Pulled). IsPulled c.args.reader.now step.0 (IsAtEnd before after) pulled c.pull.new.self) c.in-Ok-More.field-0-is step.3) in
+    more_advanced g.V.Volume start before c.args.reader.now (place c.args.desk.now.writer.volume.now c.args.desk.now.writer.ledger c.args.desk.now.revisions (g.K.Sink.written c.args.sink.now) (g.C.Clock.moments c.args.clock.now)) p after next.0 c.pull.new.self
+    (place c.args.desk.now.writer.volume.now c.args.desk.now.writer.ledger c.args.desk.now.revisions (g.K.Sink.written c.args.sink.now) (g.C.Clock.moments c.args.clock.now))
+    next.1 p.told next.2 refl
 
-pub returns-in-Ok-End-clause-run : goal.returns-in-Ok-End-clause-run
-returns-in-Ok-End-clause-run g c = λ start input before p.
-    let left = g.S.Source.left c.args.source.now in
-    let now = g.S.Source.left c.pull.new.source in
-    let old : Waiting = waiting c.args.reader.now in
-    let new : Waiting = waiting c.pull.new.self in
+pub returns-in-Ok-End-clause-ran : goal.returns-in-Ok-End-clause-ran
+returns-in-Ok-End-clause-ran g c = λ start p.
+    let before = g.S.Source.left c.args.source.now in
+    let after = g.S.Source.left c.pull.new.source in
     let step = c.in-Ok-End.ensures.pulled in
-    let end = subst (λ (pulled : Pulled). IsPulled old step.0 left now pulled new) c.in-Ok-End.field-0-is step.2 in
-    all_done start input before left (g.K.Sink.written c.args.sink.now) old c.args.desk.now (g.C.Clock.moments c.args.clock.now) p now step.0 step.1
-    end.0 end.1 end.2 end.3
+    let next = follow c.args.reader.now c.pull.new.self start.input p.rest step.0 p.given before after pulls.End p.left_is step.2 p.at
+    (subst (λ (pulled : Pulled). IsPulled c.args.reader.now step.0 (IsAtEnd before after) pulled c.pull.new.self) c.in-Ok-End.field-0-is step.3) in
+    still_ended g.V.Volume start before c.args.reader.now (place c.args.desk.now.writer.volume.now c.args.desk.now.writer.ledger c.args.desk.now.revisions (g.K.Sink.written c.args.sink.now) (g.C.Clock.moments c.args.clock.now)) p after next.0 c.pull.new.self
+    (place c.args.desk.now.writer.volume.now c.args.desk.now.writer.ledger c.args.desk.now.revisions (g.K.Sink.written c.args.sink.now) (g.C.Clock.moments c.args.clock.now))
+    next.1 p.told c.end.result (leads_still g.V.Volume c.args.desk.now.writer.volume.now c.args.desk.now.writer.ledger p.course.book p.shows.book) refl
+    (end_outcome g.V.Volume start before c.args.reader.now (place c.args.desk.now.writer.volume.now c.args.desk.now.writer.ledger c.args.desk.now.revisions (g.K.Sink.written c.args.sink.now) (g.C.Clock.moments c.args.clock.now)) p after next.0 c.pull.new.self
+    (place c.args.desk.now.writer.volume.now c.args.desk.now.writer.ledger c.args.desk.now.revisions (g.K.Sink.written c.args.sink.now) (g.C.Clock.moments c.args.clock.now)) next.1 p.told c.end.result next.2.2 next.2.1 c.end.ensures.end)
 
-pub returns-in-Err-Failed-clause-run : goal.returns-in-Err-Failed-clause-run
-returns-in-Err-Failed-clause-run g c = λ start input before p.
-    let left = g.S.Source.left c.args.source.now in
-    let now = g.S.Source.left c.pull.new.source in
-    let old : Waiting = waiting c.args.reader.now in
-    let failed = c.in-Err-Failed.ensures.failed c.in-Err-Failed.field-0-is in
-    read_failed start input before left (g.K.Sink.written c.args.sink.now) old c.args.desk.now (g.C.Clock.moments c.args.clock.now) p now [] failed.1 failed.0 refl
+pub returns-in-Err-Failed-clause-ran : goal.returns-in-Err-Failed-clause-ran
+returns-in-Err-Failed-clause-ran g c = λ start p.
+    let before = g.S.Source.left c.args.source.now in
+    let after = g.S.Source.left c.pull.new.source in
+    let step = c.in-Err-Failed.ensures.unpulled in
+    let next = follow_failed c.args.reader.now c.pull.new.self start.input p.rest step.0 p.given before after p.left_is step.2 p.at
+    (subst (λ (fault : PullFault). IsUnpulled c.args.reader.now step.0 fault c.pull.new.self) c.in-Err-Failed.field-0-is step.3) in
+    still_ended g.V.Volume start before c.args.reader.now (place c.args.desk.now.writer.volume.now c.args.desk.now.writer.ledger c.args.desk.now.revisions (g.K.Sink.written c.args.sink.now) (g.C.Clock.moments c.args.clock.now)) p after next.0 c.pull.new.self
+    (place c.args.desk.now.writer.volume.now c.args.desk.now.writer.ledger c.args.desk.now.revisions (g.K.Sink.written c.args.sink.now) (g.C.Clock.moments c.args.clock.now))
+    next.1 p.told status.ReadFault (leads_still g.V.Volume c.args.desk.now.writer.volume.now c.args.desk.now.writer.ledger p.course.book p.shows.book) refl
+    (failed_outcome g.V.Volume start before c.args.reader.now (place c.args.desk.now.writer.volume.now c.args.desk.now.writer.ledger c.args.desk.now.revisions (g.K.Sink.written c.args.sink.now) (g.C.Clock.moments c.args.clock.now)) p after next.0 c.pull.new.self
+    (place c.args.desk.now.writer.volume.now c.args.desk.now.writer.ledger c.args.desk.now.revisions (g.K.Sink.written c.args.sink.now) (g.C.Clock.moments c.args.clock.now)) next.1 p.told next.3 next.4 next.5)
 
-pub returns-clause-run : goal.returns-clause-run
-returns-clause-run g c = λ start input before p.
-    let left = g.S.Source.left c.args.source.now in
-    let now = g.S.Source.left c.pull.new.source in
-    let old : Waiting = waiting c.args.reader.now in
-    let step = c.in-Err-OutOfMemory.ensures.out_of_memory in
-    read_stopped start input before left (g.K.Sink.written c.args.sink.now) old c.args.desk.now (g.C.Clock.moments c.args.clock.now) p now step.0 step.1
+pub returns-in-Err-OutOfMemory-clause-ran : goal.returns-in-Err-OutOfMemory-clause-ran
+returns-in-Err-OutOfMemory-clause-ran g c = λ start p.
+    let before = g.S.Source.left c.args.source.now in
+    let after = g.S.Source.left c.pull.new.source in
+    let step = c.in-Err-OutOfMemory.ensures.unpulled in
+    let next = follow_memory c.args.reader.now c.pull.new.self start.input p.rest step.0 p.given before after p.left_is step.2 p.at
+    (subst (λ (fault : PullFault). IsUnpulled c.args.reader.now step.0 fault c.pull.new.self) c.in-Err-OutOfMemory.field-0-is step.3) in
+    let front = given_front c.args.reader.now start.input p.rest p.given p.at in
+    short_ended g.V.Volume start before c.args.reader.now (place c.args.desk.now.writer.volume.now c.args.desk.now.writer.ledger c.args.desk.now.revisions (g.K.Sink.written c.args.sink.now) (g.C.Clock.moments c.args.clock.now)) p after next.0 c.pull.new.self
+    (place c.args.desk.now.writer.volume.now c.args.desk.now.writer.ledger c.args.desk.now.revisions (g.K.Sink.written c.args.sink.now) (g.C.Clock.moments c.args.clock.now))
+    next.1 p.told (leads_still g.V.Volume c.args.desk.now.writer.volume.now c.args.desk.now.writer.ledger p.course.book p.shows.book) refl front.0 front.1

@@ -1,114 +1,121 @@
-use Rattle.std.proofs.Common.{◌≡◌, ◌∙◌, ◌++◌, ℕ, List, [], Option, Some, Ok, Err, refl, ap, sym, append-nil, inl}
-use Rattle.sx_layout.specs.Stands.{groups_of}
-use Rattle.sx_layout.proofs.Legal.{stands_reads}
+use Rattle.std.proofs.Common.{◌∙◌, [], is_some, inl, inr, refl, ap, subst, rules}
 use Rattle.sx_run.specs.Lines.{lines_of}
-use Rattle.sx_run.specs.Run.{Course, started}
-use Rattle.sx_shell.proofs.Crashes.{safe_run, safe_none}
-use Rattle.sx_shell.proofs.Outcomes.{at_told, when_told, told_from, started_legal, outcome_legal, failed_or_not, refused, not_other, found_damage}
-use Rattle.sx_shell.proofs.Standing.{stands_at_end}
-use Rattle.sx_plain.specs.Reading.{opened_bytes}
-use Rattle.sx_shell.specs.Outcome.{CommitFailed}
-use Rattle.sx_shell.specs.declared.desk.Desk.{Desk}
+use Rattle.sx_run.specs.Run.{started}
+use Rattle.sx_shell.proofs.Living.{at_told, begins, ended_run, has_still, kept_run, not_whole, nothing_more, ready_first, refused_kept, refused_run}
+use Rattle.sx_shell.specs.Live.{HasRun, IsKept}
+use Rattle.sx_shell.specs.Outcome.{Told}
+use Rattle.sx_shell.specs.Progress.{Start}
 use Rattle.sx_shell.specs.declared.status.Status.TheVariants as status
+use Rattle.sx_store.specs.Opening.{FaultExplains}
 use Rattle.sx_shell.proofs.shell.run_live.Goals as goal
-
-nothing_more : (before : List ℕ) (written : Option (List ℕ)) → written ≡ Some before → written ≡ Some (before ++ [])
-nothing_more before written is = is ∙ ap (λ (b : List ℕ). Some b) (sym (append-nil before))
 
 pub returns-in-Err-Failed-clause-run : goal.returns-in-Err-Failed-clause-run
 returns-in-Err-Failed-clause-run g c = λ image input before commits told stands left written.
-    let start : Course = started commits (g.C.Clock.moments c.args.clock.now) in
-    let synced = at_told _ (g.V.Volume.bytes c.args.volume.now) image told c.in-Err-Failed.ensures.synced_or_not in (
+    let opened = at_told _ (g.V.Volume.bytes c.args.volume.now) image told c.in-Err-Failed.ensures.synced_or_not in (
       input,
       [],
-      start,
       left,
       nothing_more before (g.K.Sink.written c.args.sink.now) written,
-      inl (refl, refl),
-      λ differs. absurd (differs refl),
-      refused start status.VolumeFault ((status.VolumeFault ≡ status.VolumeFault) × CommitFailed start input [] start) image (g.V.Volume.moment c.args.volume.now) (g.V.Volume.moment c.open.new.volume)
-          (g.V.Volume.is_image c.args.volume.now) (g.V.Volume.is_image c.open.new.volume) (g.V.Volume.was_image c.open.new.volume) (g.V.Volume.synced c.args.volume.now) (g.V.Volume.synced c.open.new.volume) stands tt (g.met.V.Volume.counts_now c.open.new.volume) synced,
+      refused_run g.V.Volume c.args.volume.now c.open_one.new.volume image (g.met.V.Volume.counts_now c.open_one.new.volume) commits (g.C.Clock.moments c.args.clock.now) input status.VolumeFault
+          stands tt (inl (refl, refl)) (λ fine. absurd (fine refl)) opened,
     )
+
+pub returns-in-Err-Failed-clause-kept : goal.returns-in-Err-Failed-clause-kept
+returns-in-Err-Failed-clause-kept g c = λ live image told whole.
+    refused_kept g.V.Volume c.args.volume.now c.open_one.new.volume image (g.met.V.Volume.counts_now c.open_one.new.volume) status.VolumeFault whole tt (λ fine. absurd (fine refl))
+    (at_told _ (g.V.Volume.bytes c.args.volume.now) image told c.in-Err-Failed.ensures.synced_or_not)
 
 pub returns-in-Err-Damaged-clause-run : goal.returns-in-Err-Damaged-clause-run
 returns-in-Err-Damaged-clause-run g c = λ image input before commits told stands left written.
-    let given = at_told _ (g.V.Volume.bytes c.args.volume.now) image told c.in-Err-Damaged.ensures.exactly (Ok (groups_of commits)) (stands_reads image commits stands) in
-    absurd (not_other c.in-Err-Damaged.field-0 c.in-Err-Damaged.damage c.in-Err-Damaged.field-0-is given)
+    absurd (elim (c.in-Err-Damaged.ensures.undamaged image commits told stands) [
+      | inl failed ↦ cc (failed, c.in-Err-Damaged.field-0-is)
+      | inr memory ↦ cc (memory, c.in-Err-Damaged.field-0-is)
+    ])
 
 pub returns-in-Err-Damaged-clause-complete : goal.returns-in-Err-Damaged-clause-complete
 returns-in-Err-Damaged-clause-complete g c = λ live image commits told stands source sink volume.
-    let given = at_told _ (g.V.Volume.bytes c.args.volume.now) image told c.in-Err-Damaged.ensures.exactly (Ok (groups_of commits)) (stands_reads image commits stands) in
-    absurd (not_other c.in-Err-Damaged.field-0 c.in-Err-Damaged.damage c.in-Err-Damaged.field-0-is given)
+    absurd (elim (c.in-Err-Damaged.ensures.undamaged image commits told stands) [
+      | inl failed ↦ cc (failed, c.in-Err-Damaged.field-0-is)
+      | inr memory ↦ cc (memory, c.in-Err-Damaged.field-0-is)
+    ])
+
+pub returns-in-Err-Damaged-clause-kept : goal.returns-in-Err-Damaged-clause-kept
+returns-in-Err-Damaged-clause-kept g c = λ live image told whole.
+    let explains = subst (FaultExplains (g.V.Volume.bytes c.args.volume.now)) c.in-Err-Damaged.field-0-is c.in-Err-Damaged.ensures.damaged in
+    absurd (not_whole image c.in-Err-Damaged.damage whole (at_told _ (g.V.Volume.bytes c.args.volume.now) image told explains.1))
 
 pub returns-in-Err-Damaged-clause-damaged_exactly : goal.returns-in-Err-Damaged-clause-damaged_exactly
 returns-in-Err-Damaged-clause-damaged_exactly g c = λ live image damage told damaged.
-    let given = at_told _ (g.V.Volume.bytes c.args.volume.now) image told c.in-Err-Damaged.ensures.exactly (Err damage) damaged in
-    let same = found_damage c.in-Err-Damaged.field-0 c.in-Err-Damaged.damage damage c.in-Err-Damaged.field-0-is given in
-    inl (cc (c.in-Err-Damaged.damage-is, same))
+    let bytes = (c.in-Err-Damaged.ensures.nothing_done (λ failed. cc (failed, c.in-Err-Damaged.field-0-is))).0 in
+    elim (c.in-Err-Damaged.ensures.exactly image damage told damaged).1 [
+      | inl same ↦ (inl (cc (c.in-Err-Damaged.damage-is, c.in-Err-Damaged.field-0-is, same)), refl, refl, λ _. bytes)
+      | inr other ↦ elim other [
+        | inl failed ↦ absurd (cc (failed, c.in-Err-Damaged.field-0-is))
+        | inr memory ↦ absurd (cc (memory, c.in-Err-Damaged.field-0-is))
+      ]
+    ]
 
 pub returns-in-Err-OutOfMemory-clause-run : goal.returns-in-Err-OutOfMemory-clause-run
 returns-in-Err-OutOfMemory-clause-run g c = λ image input before commits told stands left written.
-    let start : Course = started commits (g.C.Clock.moments c.args.clock.now) in
-    let synced = at_told _ (g.V.Volume.bytes c.args.volume.now) image told c.in-Err-OutOfMemory.ensures.synced_or_not in
+    let opened = at_told _ (g.V.Volume.bytes c.args.volume.now) image told c.in-Err-OutOfMemory.ensures.synced_or_not in
     let bytes = (c.in-Err-OutOfMemory.ensures.nothing_done (λ failed. cc (failed, c.in-Err-OutOfMemory.field-0-is))).0 in (
       input,
       [],
-      start,
       left,
       nothing_more before (g.K.Sink.written c.args.sink.now) written,
-      ([], lines_of input, refl, (refl, refl)),
-      λ _. (image, bytes ∙ told, stands),
-      refused start status.OutOfMemory ((status.OutOfMemory ≡ status.VolumeFault) × CommitFailed start input [] start) image (g.V.Volume.moment c.args.volume.now) (g.V.Volume.moment c.open.new.volume)
-          (g.V.Volume.is_image c.args.volume.now) (g.V.Volume.is_image c.open.new.volume) (g.V.Volume.was_image c.open.new.volume) (g.V.Volume.synced c.args.volume.now) (g.V.Volume.synced c.open.new.volume) stands tt (g.met.V.Volume.counts_now c.open.new.volume) synced,
+      refused_run g.V.Volume c.args.volume.now c.open_one.new.volume image (g.met.V.Volume.counts_now c.open_one.new.volume) commits (g.C.Clock.moments c.args.clock.now) input status.OutOfMemory
+          stands tt
+          (record {
+            mid = started commits (g.C.Clock.moments c.args.clock.now);
+            first = record { lines = []; more = lines_of input; lines_are = refl; items = []; items_are = tt; ran = (refl, refl) };
+            last = inl refl;
+          })
+          (λ _. bytes ∙ told) opened,
     )
 
-pub returns-in_default-clause-run : goal.returns-in_default-clause-run
-returns-in_default-clause-run g c = λ image input before commits told stands left written.
-    let start : Course = started commits (g.C.Clock.moments c.args.clock.now) in
-    let bytes = g.V.Volume.bytes c.args.volume.now in
-    let given : c.in-Ok.log ≡ groups_of commits = at_told _ bytes image told c.in-Ok.ensures.exactly (Ok (groups_of commits)) (stands_reads image commits stands) in
-    let synced = at_told _ bytes image told c.in-Ok.ensures.synced in (
-      input,
-      [],
-      start,
-      left,
-      nothing_more before (g.K.Sink.written c.args.sink.now) written,
-      ([], lines_of input, refl, (refl, refl)),
-      λ _. stands_at_end bytes (g.V.Volume.bytes c.open.new.volume) (g.V.Volume.bytes c.open.new.volume) image c.in-Ok.log commits told (told_from opened_bytes bytes (g.V.Volume.bytes c.open.new.volume) c.in-Ok.ensures.bytes) refl stands.0 stands.1 c.in-Ok.ensures.kept.groups given,
-      inl (safe_none start ((status.OutOfMemory ≡ status.VolumeFault) × CommitFailed start input [] start) image (g.V.Volume.moment c.args.volume.now) (g.V.Volume.moment c.open.new.volume)
-          (g.V.Volume.is_image c.args.volume.now) (g.V.Volume.is_image c.open.new.volume) (g.V.Volume.was_image c.open.new.volume) (g.V.Volume.synced c.args.volume.now) (g.V.Volume.synced c.open.new.volume) stands synced (g.met.V.Volume.counts_now c.open.new.volume)),
-    )
+pub returns-in-Err-OutOfMemory-clause-kept : goal.returns-in-Err-OutOfMemory-clause-kept
+returns-in-Err-OutOfMemory-clause-kept g c = λ live image told whole.
+    let bytes = (c.in-Err-OutOfMemory.ensures.nothing_done (λ failed. cc (failed, c.in-Err-OutOfMemory.field-0-is))).0 in
+    refused_kept g.V.Volume c.args.volume.now c.open_one.new.volume image (g.met.V.Volume.counts_now c.open_one.new.volume) status.OutOfMemory whole tt (λ _. bytes)
+    (at_told _ (g.V.Volume.bytes c.args.volume.now) image told c.in-Err-OutOfMemory.ensures.synced_or_not)
+
+pub drive-status-requires-clause-ready : goal.drive-status-requires-clause-ready
+drive-status-requires-clause-ready g c = ready_first g.V.Volume c.open_one.new.volume c.in-Ok.ledger c.in-Ok.ensures.sound
 
 pub returns-clause-run : goal.returns-clause-run
 returns-clause-run g c = λ image input before commits told stands left written.
-    let start : Course = started commits (g.C.Clock.moments c.args.clock.now) in
-    let bytes = g.V.Volume.bytes c.args.volume.now in
-    let opened = g.V.Volume.bytes c.open.new.volume in
-    let old : Desk = c.in-Ok-new.desk in
-    let new : Desk = c.drive.new.desk in
-    let given : c.in-Ok.log ≡ groups_of commits = at_told _ bytes image told c.in-Ok.ensures.exactly (Ok (groups_of commits)) (stands_reads image commits stands) in
-    let synced = at_told _ bytes image told c.in-Ok.ensures.synced in
-    let shows = c.in-Ok-new.ensures.shows commits (g.C.Clock.moments c.args.clock.now) given stands.0 stands.1 in
-    let ran = c.drive.ensures.ended.1 start input before left written shows refl in
-    let end = outcome_legal start input ran.0 c.drive.result ran.1 ran.2 ran.5 (started_legal commits (g.C.Clock.moments c.args.clock.now) stands.0 stands.1) in
-    let told_still = told_from opened_bytes bytes opened c.in-Ok.ensures.bytes in (
-      ran.0,
-      ran.1,
-      ran.2,
-      ran.3,
-      ran.4,
-      ran.5,
-      λ ok. stands_at_end bytes opened (g.V.Volume.bytes c.drive.new.volume) image new.log ran.2.commits told told_still (c.drive.ensures.told ok) end.0.commits end.0.numbers
-          (c.drive.ensures.kept ok).groups ran.6,
-      inl (safe_run start ran.2 (c.drive.result ≡ status.VolumeFault) ((c.drive.result ≡ status.VolumeFault) × CommitFailed start input ran.1 ran.2) image
-          (g.V.Volume.moment c.args.volume.now) (g.V.Volume.moment c.open.new.volume) (g.V.Volume.moment c.drive.new.volume)
-          (g.V.Volume.is_image c.args.volume.now) (g.V.Volume.is_image c.drive.new.volume) (g.V.Volume.was_image c.open.new.volume) (g.V.Volume.was_image c.drive.new.volume)
-          (g.V.Volume.synced c.args.volume.now) (g.V.Volume.synced c.open.new.volume) (g.V.Volume.synced c.drive.new.volume) old new c.drive.ensures.ended.0
-          stands synced c.drive.ensures.time (c.in-Ok-new.ensures.same_log ∙ given) ran.6 end.0 end.1
-          (g.met.V.Volume.counts_now c.drive.new.volume) (when_told _ bytes opened image told told_still c.drive.ensures.ended.2)
-          (λ fault. let in_commit = ran.7 fault in (in_commit.0, (fault, in_commit.1), in_commit.2)) (failed_or_not c.drive.result)),
+    let moments = g.C.Clock.moments c.args.clock.now in
+    let mid = c.open_one.new.volume in
+    let synced = at_told _ (g.V.Volume.bytes c.args.volume.now) image told c.in-Ok.ensures.synced in
+    let start : Start = record { course = started commits moments; input = input; before = before; from = g.V.Volume.moment mid } in
+    let ended =
+    c.drive-status.ensures.ran start
+    (begins g.V.Volume mid c.in-Ok.ledger commits moments input before (g.S.Source.left c.args.source.now) (g.K.Sink.written c.args.sink.now) left written
+    (c.in-Ok.ensures.told (ap is_some told)) c.in-Ok.ensures.sound (c.in-Ok.ensures.shows image commits told stands) c.in-Ok.ensures.writes (g.met.V.Volume.only_now mid)) in
+    let said : Told = record { input = input; left = ended.rest; written = ended.out } in
+    let has_run : HasRun g.V.Volume c.args.volume.now c.drive-status.new.desk.writer.volume.now (started commits moments) said c.drive-status.result =
+    ended_run g.V.Volume c.args.volume.now mid c.drive-status.new.desk.writer.volume.now image synced c.drive-status.ensures.continues.time (g.met.V.Volume.counts_now c.drive-status.new.desk.writer.volume.now)
+    commits moments (g.C.Clock.moments c.drive-status.new.clock) input before (g.S.Source.left c.drive-status.new.source) (g.K.Sink.written c.drive-status.new.sink)
+    c.drive-status.new.desk.writer.ledger c.drive-status.new.desk.revisions c.drive-status.result stands c.drive-status.ensures.ready.sound ended in (
+      ended.rest,
+      ended.out,
+      ended.left_is,
+      ended.written_is,
+      subst (λ (v : g.row.V.Denot). HasRun g.V.Volume c.args.volume.now v (started commits moments) said c.drive-status.result) (search rules) has_run,
     )
+
+pub returns-clause-kept : goal.returns-clause-kept
+returns-clause-kept g c = λ live image told whole.
+    let mid = c.open_one.new.volume in
+    let new = c.drive-status.new.desk.writer.volume.now in
+    let kept : IsKept g.V.Volume c.args.volume.now new image c.drive-status.result =
+    inl (kept_run g.V.Volume c.args.volume.now mid new image
+    (at_told _ (g.V.Volume.bytes c.args.volume.now) image told c.in-Ok.ensures.synced) c.drive-status.ensures.continues.time (g.met.V.Volume.counts_now new) c.in-Ok.ledger
+    (at_told _ (g.V.Volume.bytes c.args.volume.now) image told c.in-Ok.ensures.reads)
+    (has_still g.V.Volume c.args.volume.now mid new c.in-Ok.ledger c.drive-status.new.desk.writer.ledger (c.in-Ok.ensures.told (ap is_some told)) c.in-Ok.ensures.sound c.in-Ok.ensures.writes (g.met.V.Volume.only_now mid)
+    c.drive-status.ensures.continues)) in
+    subst (λ (v : g.row.V.Denot). IsKept g.V.Volume c.args.volume.now v image c.drive-status.result) (search rules) kept
 
 pub returns-clause-damaged_exactly : goal.returns-clause-damaged_exactly
 returns-clause-damaged_exactly g c = λ live image damage told damaged.
-    absurd (at_told _ (g.V.Volume.bytes c.args.volume.now) image told c.in-Ok.ensures.exactly (Err damage) damaged)
+    let refused = (c.in-Ok.ensures.exactly image damage told damaged).0 in absurd (cc refused)

@@ -19,5 +19,5 @@ loop-rest-preserved g c =
         so_far.1 ∙ ap (λ (bytes : List ℕ). so_far.0 ++ bytes) more.1 ∙ sym (append_assoc so_far.0 more.0 c.in_ok-rest.rest.now),
         gains_more (g.K.Sink.written c.args.sink.now) (g.K.Sink.written c.loop-rest.sink) (g.K.Sink.written c.write_some.new.sink) so_far.0 more.0 so_far.2 more.2,
       );
-      counted = omega arith;
+      counted = c.in_ok-rest.ensures.no_fault ∙ c.loop-rest.invariant.counted;
     }
