@@ -33,8 +33,8 @@ def run_whole(program, path, script):
 
 def commits_in(program, path):
     """The numbers of all commits in the file, the first one first."""
-    (missing,) = run_whole(program, path, f"open {2**32 - 1}\n")
-    count = int(missing.split()[-1])
+    (latest,) = run_whole(program, path, "open latest\n")
+    count = int(latest.removeprefix("ok "))
     script = "".join(f"open {i}\ntext 0\n" for i in range(1, count + 1))
     return [int(text.removeprefix("ok ")) for text in run_whole(program, path, script)[1::2]]
 
