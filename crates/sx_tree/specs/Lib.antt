@@ -1,3 +1,4 @@
+pub mod Compact
 pub mod Number
 pub mod NumberState
 pub mod LiteralFault

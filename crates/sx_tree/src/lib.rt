@@ -2,6 +2,7 @@
 #![tactic(auto)]
 
 pub mod bytes;
+mod compact;
 pub mod edit;
 pub mod json;
 pub mod json_fault;

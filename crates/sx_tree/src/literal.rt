@@ -2,6 +2,7 @@
 ghost use Rattle.std.specs.Prelude.{◌≡◌, ◌≤◌, IfOk, IfErr, length};
 ghost use Rattle.sx_tree.specs.Number.{IsNumber};
 
+use crate::compact::Compact;
 use crate::number::number_front;
 use crate::text::{Text, TextFault};
 use std::alloc::{AllocError, Global};
@@ -27,7 +28,7 @@ pub enum LiteralFault {
 /// The text of a number of RFC 8259 section 6, of at most 64 bytes, kept as it was written.
 #[derive(Drop)]
 pub struct Literal {
-    bytes: Vec<u8>,
+    bytes: Compact,
 }
 
 impl Model for Literal {
@@ -36,9 +37,9 @@ impl Model for Literal {
 
     ghost Value = { List ℕ };
 
-    ghost view = { λ l. l.bytes.items };
+    ghost view = { λ l. l.bytes };
 
-    ghost invariant = { λ l. ∥ IsNumber l.bytes.items ∥₁ × (length l.bytes.items ≤ 64) };
+    ghost invariant = { λ l. ∥ IsNumber l.bytes ∥₁ × (length l.bytes ≤ 64) };
 }
 
 impl Literal {
@@ -67,7 +68,7 @@ impl Literal {
                 at: front.len as u64,
             });
         }
-        match bytes.to_vec(alloc) {
+        match Compact::new(alloc, bytes) {
             Ok(bytes) => Ok(Literal { bytes }),
             Err(_) => Err(LiteralFault::OutOfMemory),
         }
@@ -98,7 +99,7 @@ impl Literal {
     pub fn copy(&self, alloc: Global) -> Result<Literal, AllocError>
         ensures { IfOk result (λ literal. literal ≡ self.now) }
     {
-        let bytes = self.bytes.as_slice().to_vec(alloc)?;
+        let bytes = Compact::new(alloc, self.bytes.as_slice())?;
         Ok(Literal { bytes })
     }
 }

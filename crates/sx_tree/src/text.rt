@@ -1,6 +1,7 @@
 //! A text of a JSON document: a string's content, or a name.
 ghost use Rattle.std.specs.Prelude.{◌≡◌, ◌≤◌, IfOk, IfErr, IsUtf8, length};
 
+use crate::compact::Compact;
 use std::alloc::{AllocError, Global};
 use std::marker::Model;
 use std::str;
@@ -25,17 +26,17 @@ pub enum TextFault {
 /// A text in UTF-8, of at most 1,048,576 bytes.
 #[derive(Drop)]
 pub struct Text {
-    text: String,
+    bytes: Compact,
 }
 
 impl Model for Text {
-    ghost use Rattle.std.specs.Prelude.{List, ℕ, ◌≤◌, length, string_bytes};
+    ghost use Rattle.std.specs.Prelude.{List, ℕ, ◌≤◌, IsUtf8, length};
 
     ghost Value = { List ℕ };
 
-    ghost view = { λ t. string_bytes t.text };
+    ghost view = { λ t. t.bytes };
 
-    ghost invariant = { λ t. length (string_bytes t.text) ≤ 1_048_576 };
+    ghost invariant = { λ t. ∥ IsUtf8 t.bytes ∥₁ × (length t.bytes ≤ 1_048_576) };
 }
 
 impl Text {
@@ -53,21 +54,18 @@ impl Text {
         ensures short { IfOk result (λ _. length bytes.now ≤ 1_048_576) }
         ensures fault { IfErr result (ExplainsText bytes.now) }
     {
-        let text = match str::from_utf8(bytes) {
-            Ok(text) => text,
-            Err(error) => {
-                return Err(TextFault::NotUtf8 {
-                    at: error.valid_up_to() as u64,
-                });
-            }
-        };
-        if text.len() > TEXT_BYTES {
-            return Err(TextFault::TooLong {
-                bytes: text.len() as u64,
+        if let Err(error) = str::from_utf8(bytes) {
+            return Err(TextFault::NotUtf8 {
+                at: error.valid_up_to() as u64,
             });
         }
-        match String::from_str(alloc, text) {
-            Ok(text) => Ok(Text { text }),
+        if bytes.len() > TEXT_BYTES {
+            return Err(TextFault::TooLong {
+                bytes: bytes.len() as u64,
+            });
+        }
+        match Compact::new(alloc, bytes) {
+            Ok(bytes) => Ok(Text { bytes }),
             Err(_) => Err(TextFault::OutOfMemory),
         }
     }
@@ -78,7 +76,7 @@ impl Text {
         ensures utf8 { IsUtf8 self.now }
         ensures short { length self.now ≤ 1_048_576 }
     {
-        self.text.as_str()
+        unsafe { str::from_utf8_unchecked(self.bytes.as_slice()) }
     }
 
     /// The bytes of the text.
@@ -87,14 +85,14 @@ impl Text {
         ensures utf8 { IsUtf8 self.now }
         ensures short { length self.now ≤ 1_048_576 }
     {
-        self.text.as_str().as_bytes()
+        self.bytes.as_slice()
     }
 
     /// An equal text.
     pub fn copy(&self, alloc: Global) -> Result<Text, AllocError>
         ensures { IfOk result (λ text. text ≡ self.now) }
     {
-        let text = String::from_str(alloc, self.text.as_str())?;
-        Ok(Text { text })
+        let bytes = Compact::new(alloc, self.bytes.as_slice())?;
+        Ok(Text { bytes })
     }
 }

@@ -14,6 +14,6 @@ returns-then-front-bytes-clause-fault c =
 
 pub invariant_of-result : goal.invariant_of-result
 invariant_of-result c =
-    let same : c.in-Ok.bytes.items ≡ c.args.bytes.now = search rules in
+    let same : c.in-Ok.bytes ≡ c.args.bytes.now = search rules in
     let true_end : c.number_front-front.result.is_number ≡ true = search rules in
     rw same (∣ number_at_end _ _ c.if-front-bytes.false (c.number_front-front.ensures.number.0 true_end) ∣₁, c.if-bytes-gt-LITERAL_BYTES.false)
