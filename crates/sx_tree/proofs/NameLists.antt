@@ -8,10 +8,6 @@ use Rattle.std.specs.Map.{update}
 use Rattle.std.specs.Str.{bytes_eq}
 use Rattle.sx_tree.specs.Names.{AreDistinct, AreIndexed}
 
-pub AreDistinct-indexed : (names : List (List ℕ)) (places : BTreeMap (String Global) ℕ) → AreIndexed names places → AreDistinct names
-AreDistinct-indexed names places ix i j name at_i at_j =
-    let e : Some i ≡ Some j = sym (ix.1 name i at_i) ∙ ix.1 name j at_j in cc
-
 pub found_at : (names : List (List ℕ)) (places : BTreeMap (String Global) ℕ) (name : List ℕ) (o : Option ℕ) → AreIndexed names places → o ≡ get_by_text places name → IfSome o (λ place. slice_get names place ≡ Some name)
 found_at names places name None ix e = tt
 found_at names places name (Some i) ix e = ix.0 name i (sym e)
@@ -43,6 +39,9 @@ slice_get_kept (first ∷ names) new name (suc i) e = slice_get_kept names new n
 slice_get_last : (names : List (List ℕ)) (new : List ℕ) → slice_get (names ++ new ∷ []) (length names) ≡ Some new
 slice_get_last [] new = refl
 slice_get_last (first ∷ names) new = slice_get_last names new
+
+pub AreIndexed-same : (names : List (List ℕ)) (old new : BTreeMap (String Global) ℕ) → new.entries ≡ old.entries → AreIndexed names old → AreIndexed names new
+AreIndexed-same names old new e ix = rw e ix
 
 same_or_not : (a b : List ℕ) → ((bytes_eq a b ≡ true) × (a ≡ b)) ⊎ ((bytes_eq a b ≡ false) × (a ≡ b → ⊥))
 same_or_not a b = let d = bytes_eq-Decides a b in by_test (bytes_eq a b) d

@@ -1,6 +1,7 @@
 -- Names of which no two are equal, and the index that finds one.
-use Rattle.std.specs.Prelude.{ℕ, ◌≡◌, List, map, String, Some, slice_get}
+use Rattle.std.specs.Prelude.{ℕ, ◌≡◌, List, map, String, Option, Some, None, slice_get}
 use Rattle.std.specs.declared.alloc.Global.{Global}
+use Rattle.std.specs.declared.boxed.Box.{Box}
 use Rattle.std.specs.BTreeMap.{BTreeMap, get_by_text}
 
 -- no name stands at two places
@@ -12,6 +13,11 @@ abbrev pub AreIndexed : List (List ℕ) → BTreeMap (String Global) ℕ → Typ
 AreIndexed names places =
     ((name : List ℕ) (i : ℕ) → get_by_text places name ≡ Some i → slice_get names i ≡ Some name)
     × ((name : List ℕ) (i : ℕ) → slice_get names i ≡ Some name → get_by_text places name ≡ Some i)
+
+-- the index of the names, where one is kept
+abbrev pub IsIndex : List (List ℕ) → Option (Box (BTreeMap (String Global) ℕ) Global) → Type 0
+IsIndex names None = Unit {0}
+IsIndex names (Some places) = AreIndexed names places.value
 
 -- the names of members
 abbrev pub names_of : {T : Type 0} → List (List ℕ × T) → List (List ℕ)
