@@ -1,5 +1,5 @@
 -- Names of which no two are equal, and the index that finds one.
-use Rattle.std.specs.Prelude.{ℕ, ◌≡◌, List, map, String, Option, Some, None, slice_get}
+use Rattle.std.specs.Prelude.{ℕ, ◌≡◌, List, [], map, String, Option, Some, None, slice_get}
 use Rattle.std.specs.declared.alloc.Global.{Global}
 use Rattle.std.specs.declared.boxed.Box.{Box}
 use Rattle.std.specs.BTreeMap.{BTreeMap, get_by_text}
@@ -22,3 +22,8 @@ IsIndex names (Some places) = AreIndexed names places.value
 -- the names of members
 abbrev pub names_of : {T : Type 0} → List (List ℕ × T) → List (List ℕ)
 names_of members = map (λ member. member.0) members
+
+-- the members that a box keeps, none where there is no box
+abbrev pub boxed_members : {T : Type 0} → Option (Box (List (List ℕ × T)) Global) → List (List ℕ × T)
+boxed_members None = []
+boxed_members (Some members) = members.value

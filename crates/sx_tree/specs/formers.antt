@@ -1,1 +1,2 @@
 pub mod member_list
+pub mod named_list

@@ -8,6 +8,7 @@ pub mod json;
 pub mod json_fault;
 pub mod literal;
 pub mod member_list;
+mod named_list;
 mod names;
 pub mod number;
 pub mod numbers;

@@ -2,7 +2,7 @@
 ghost use Rattle.std.specs.Prelude.{◌≡◌, [], ◌∷◌, ◌++◌, Contains, IfErr, IfNone, IfOk, IfSome, OnErr, OnOk, length, map, slice_get};
 ghost use Rattle.sx_tree.specs.Names.{AreDistinct, names_of};
 
-use crate::names::Names;
+use crate::named_list::NamedList;
 use crate::text::Text;
 use std::alloc::{AllocError, Global};
 use std::marker::Model;
@@ -22,33 +22,29 @@ pub enum MemberFault {
 /// Values in the order in which they came, each under a name that no other has.
 #[derive(Drop)]
 pub struct MemberList<T> {
-    names: Names,
-    values: Vec<T>,
+    /// None where there are no members, which then take no memory of their own.
+    list: Option<Box<NamedList<T>>>,
 }
 
 impl<T> Model for MemberList<T> {
-    ghost use Rattle.std.specs.Prelude.{List, ℕ, ◌≡◌, length};
-    ghost use Rattle.std.specs.List.{zip};
+    ghost use Rattle.std.specs.Prelude.{List, ℕ};
     ghost use Rattle.std.specs.Coded.{coded_list, coded×, coded_ℕ};
 
     ghost Value = { List (List ℕ × T) };
 
     ghost coded = { coded_list (coded× (coded_list coded_ℕ) T.code) };
 
-    ghost view = { λ m. zip m.names m.values.items };
+    ghost use Rattle.sx_tree.specs.Names.{boxed_members};
 
-    ghost invariant = { λ m. length m.values.items ≡ length m.names };
+    ghost view = { λ m. boxed_members m.list };
 }
 
 impl<T> MemberList<T> {
     /// No members.
-    pub fn new(alloc: Global) -> MemberList<T>
+    pub fn new(_alloc: Global) -> MemberList<T>
         ensures { result ≡ [] }
     {
-        MemberList {
-            names: Names::new(alloc),
-            values: Vec::new(alloc),
-        }
+        MemberList { list: None }
     }
 
     /// The names, in order.
@@ -56,7 +52,10 @@ impl<T> MemberList<T> {
         ensures same { result.now ≡ names_of self.now }
         ensures distinct { AreDistinct (names_of self.now) }
     {
-        self.names.as_slice()
+        match &self.list {
+            Some(list) => list.names(),
+            None => &[],
+        }
     }
 
     /// The place of the member with the name.
@@ -64,14 +63,20 @@ impl<T> MemberList<T> {
         ensures found { IfSome result (λ place. slice_get (names_of self.now) place ≡ Some name.now) }
         ensures none { IfNone result (Contains (names_of self.now) name.now → ⊥) }
     {
-        self.names.find(name)
+        match &self.list {
+            Some(list) => list.find(name),
+            None => None,
+        }
     }
 
     /// The values, in order.
     pub fn values(&self) -> &[T]
         ensures same { result.now ≡ map (λ m. m.1) self.now }
     {
-        self.values.as_slice()
+        match &self.list {
+            Some(list) => list.values(),
+            None => &[],
+        }
     }
 }
 
@@ -89,7 +94,7 @@ impl<T: Drop> MemberList<T> {
         ensures fault { IfErr result (ExplainsMember (names_of self.old) name) }
         ensures err { OnErr result (self.new ≡ self.old) }
     {
-        match self.names.find(&name) {
+        match self.find(&name) {
             Some(place) => Err(MemberFault::Taken {
                 index: place.min(u32::MAX as usize) as u32,
             }),
@@ -106,9 +111,14 @@ impl<T: Drop> MemberList<T> {
         ensures ok { OnOk result (self.new ≡ self.old ++ (name, value) ∷ []) }
         ensures err { OnErr result (self.new ≡ self.old) }
     {
-        self.values.reserve(1)?;
-        self.names.push(alloc, name)?;
-        self.values.push_reserved(value);
-        Ok(())
+        match &mut self.list {
+            Some(list) => list.push(alloc, name, value),
+            None => {
+                let mut list = Box::new(alloc, NamedList::new(alloc))?;
+                list.push(alloc, name, value)?;
+                self.list = Some(list);
+                Ok(())
+            }
+        }
     }
 }

@@ -1,14 +1,7 @@
-use Rattle.std.proofs.Common.{◌≡◌}
-use Rattle.sx_tree.specs.Names.{names_of}
-use Rattle.sx_tree.proofs.MemberLists.{names_of-zip}
+use Rattle.std.proofs.Common.{◌≡◌, rules}
 use Rattle.sx_tree.proofs.member_list.MemberList.find.Goals as goal
 
-pub returns-clause-found : goal.returns-clause-found
-returns-clause-found g c =
-    let names : names_of c.args.self.now ≡ c.self.inside.names = rw (← c.self.view_is) (names_of-zip c.self.inside.names c.self.inside.values.items c.self.invariant) in
-    rw names c.find.ensures.found
-
-pub returns-clause-none : goal.returns-clause-none
-returns-clause-none g c =
-    let names : names_of c.args.self.now ≡ c.self.inside.names = rw (← c.self.view_is) (names_of-zip c.self.inside.names c.self.inside.values.items c.self.invariant) in
-    rw names c.find.ensures.none
+pub returns-in-Some-clause-found : goal.returns-in-Some-clause-found
+returns-in-Some-clause-found g c =
+    let same : c.deref.result.now ≡ c.args.self.now = search rules in
+    rw (← same) c.find.ensures.found

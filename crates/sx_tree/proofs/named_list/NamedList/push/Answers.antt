@@ -1,7 +1,7 @@
 use Rattle.std.proofs.Common.{◌≡◌, ◌++◌, ◌∷◌, [], ap, ◌∙◌}
 use Rattle.sx_tree.specs.Names.{names_of}
 use Rattle.sx_tree.proofs.MemberLists.{names_of-zip, zip-push}
-use Rattle.sx_tree.proofs.member_list.MemberList.push_new.Goals as goal
+use Rattle.sx_tree.proofs.named_list.NamedList.push.Goals as goal
 
 pub push-requires : goal.push-requires
 push-requires g c =
@@ -12,5 +12,5 @@ pub returns-clause-ok : goal.returns-clause-ok
 returns-clause-ok g c =
     let names : c.push.new.self ≡ c.self.inside.names ++ c.args.name ∷ [] = c.in_ok-push.ensures.ok in
     let values : c.push_reserved.new.self.items ≡ c.self.inside.values.items ++ c.args.value ∷ []
-    = c.push_reserved.ensures.items ∙ ap (λ l. l ++ c.args.value ∷ []) c.in_ok-reserve.ensures.items in
+    = c.push_reserved.ensures.items ∙ ap (λ l. l ++ c.args.value ∷ []) c.in_ok-reserve_exact.ensures.items in
     rw (← c.self.view_is) (rw names (rw values (zip-push c.self.inside.names c.self.inside.values.items c.args.name c.args.value c.self.invariant)))
