@@ -6,7 +6,7 @@ use Rattle.std.specs.declared.alloc.Global.{Global}
 use Rattle.std.specs.BTreeMap.{BTreeMap, get_by_text}
 use Rattle.std.specs.Map.{update}
 use Rattle.std.specs.Str.{bytes_eq}
-use Rattle.sx_tree.specs.Names.{AreDistinct, AreIndexed}
+use Rattle.sx_tree.specs.Names.{AreIndexed}
 
 pub found_at : (names : List (List ℕ)) (places : BTreeMap (String Global) ℕ) (name : List ℕ) (o : Option ℕ) → AreIndexed names places → o ≡ get_by_text places name → IfSome o (λ place. slice_get names place ≡ Some name)
 found_at names places name None ix e = tt
