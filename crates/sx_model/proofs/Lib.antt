@@ -13,6 +13,7 @@ pub mod NumberedTrees
 pub mod OneString
 pub mod OneValue
 mod OrderRows
+mod PathRows
 pub mod Plugging
 mod RefusalRows
 pub mod Shortest

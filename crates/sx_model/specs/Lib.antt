@@ -21,3 +21,4 @@ pub mod Strings
 pub mod Tree
 pub mod TreeText
 pub mod Valid
+pub mod WrittenPath
