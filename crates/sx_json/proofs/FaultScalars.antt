@@ -1,10 +1,11 @@
 -- What is wrong in a scalar, and where a whole one ends.
 use Rattle.std.proofs.Common.{refl, ◌≡◌, ℕ, ◌+◌, ◌≤◌, ◌<◌, ◌⊎◌, inl, inr, List, [], ◌∷◌, ◌++◌, ap, sym, ◌∙◌, subst, arith, append_assoc, length, take, drop, min, IsUtf8, codes}
-use Rattle.std.proofs.lemmas.List.{append-nil, length-append, length-take-le, take-take, take-append-drop}
+use Rattle.std.proofs.lemmas.List.{append-nil, length-append, length-take, length-take-le, take-take, take-append-drop}
 use Rattle.std.proofs.lemmas.Bool.{cases_lt}
 use Rattle.std.proofs.Math.Seq.{take-append-add, take-append_seam}
 use Rattle.sx_tree.specs.Number.{IsNumber, BeginsNumber, IsLongestFront}
 use Rattle.sx_model.specs.Grammar.{AreBlanks, Skips}
+use Rattle.sx_json.specs.Reading.{GoesOn}
 use Rattle.sx_json.proofs.StringTexts.{tail_ascii}
 use Rattle.sx_model.proofs.FirstBytes.{blank_small}
 use Rattle.sx_tree.proofs.NumberBytes.{AreNumberBytes, front_is, number_small}
@@ -14,8 +15,11 @@ blanks_keep [] rest all u = u
 blanks_keep (b ∷ bs) rest all u =
     let small : b < 128 = omega (arith, blank_small b all.0) in blanks_keep bs rest all.1 (tail_ascii b (bs ++ rest) small u)
 
-pub skips_keep : (bytes rest : List ℕ) → Skips bytes rest → IsUtf8 bytes → IsUtf8 rest
+skips_keep : (bytes rest : List ℕ) → Skips bytes rest → IsUtf8 bytes → IsUtf8 rest
 skips_keep bytes rest s u = blanks_keep s.0 rest s.1 (subst IsUtf8 s.2 u)
+
+pub skips_go : (bytes rest : List ℕ) → Skips bytes rest → IsUtf8 bytes → GoesOn bytes rest
+skips_go bytes rest s u = (skips_keep bytes rest s u, omega (arith, ap length s.2, length-append s.0 rest))
 
 number_bytes_keep : (front rest : List ℕ) → AreNumberBytes front → IsUtf8 (front ++ rest) → IsUtf8 rest
 number_bytes_keep [] rest all u = u
@@ -28,8 +32,14 @@ begins_shorter front n b =
 pub whole_begins : (literal : List ℕ) → IsNumber literal → BeginsNumber literal
 whole_begins literal n = ([], subst IsNumber (sym (append-nil literal)) n)
 
-pub number_keeps : (bytes : List ℕ) (len : ℕ) → IsNumber (take len bytes) → IsUtf8 bytes → IsUtf8 (drop len bytes)
+number_keeps : (bytes : List ℕ) (len : ℕ) → IsNumber (take len bytes) → IsUtf8 bytes → IsUtf8 (drop len bytes)
 number_keeps bytes len n u = number_bytes_keep (take len bytes) (drop len bytes) (front_is (take len bytes) (whole_begins (take len bytes) n)) (subst IsUtf8 (sym (take-append-drop len bytes)) u)
+
+pub number_goes : (bytes : List ℕ) (len : ℕ) → IsNumber (take len bytes) → IsUtf8 bytes → GoesOn bytes (drop len bytes)
+number_goes bytes len n u = (number_keeps bytes len n u, omega (arith, ap length (take-append-drop len bytes), length-append (take len bytes) (drop len bytes)))
+
+pub number_is_whole : (bytes : List ℕ) (most len : ℕ) → IsLongestFront (take most bytes) len → IsNumber (take len bytes) → IsNumber (take len (take most bytes))
+number_is_whole bytes most len front n = subst IsNumber (sym (take-take len most bytes (omega (arith, front.within, length-take most bytes)))) n
 
 -- The longest front among the first 65 bytes is the longest where it is shorter.
 pub longest_of_all : (bytes : List ℕ) (most len : ℕ) → most ≡ min (length bytes) 65 → IsLongestFront (take most bytes) len → len ≤ 64 → IsLongestFront bytes len
@@ -91,6 +101,9 @@ number_longest bytes literal after n is ends = record {
 
 pub longest_one : (bytes : List ℕ) (n m : ℕ) → IsLongestFront bytes n → IsLongestFront bytes m → n ≡ m
 longest_one bytes n m p q = omega (arith, p.longest m q.within q.begins, q.longest n p.within p.begins)
+
+pub word_goes : (word bytes left : List ℕ) → (IsUtf8 (word ++ left) → IsUtf8 left) → bytes ≡ word ++ left → IsUtf8 bytes → GoesOn bytes left
+word_goes word bytes left keeps is u = (keeps (subst IsUtf8 is u), omega (arith, ap length is, length-append word left))
 
 pub true_keeps : (left : List ℕ) → IsUtf8 (codes "true" ++ left) → IsUtf8 left
 true_keeps left u = tail_ascii 101 left (omega arith) (tail_ascii 117 (101 ∷ left) (omega arith) (tail_ascii 114 (117 ∷ 101 ∷ left) (omega arith) (tail_ascii 116 (114 ∷ 117 ∷ 101 ∷ left) (omega arith) u)))

@@ -1,9 +1,11 @@
 -- What is within the limits grows by one element or member.
-use Rattle.std.proofs.Common.{◌≡◌, ℕ, ◌+◌, ◌<◌, length, get_or, take, List, [], ◌∷◌, ◌++◌, ap, sym, ◌∙◌, subst, Result, Ok, Err, OnOk}
+use Rattle.std.proofs.Common.{◌≡◌, refl, ℕ, ◌+◌, ◌<◌, length, get_or, take, List, [], ◌∷◌, ◌++◌, ap, sym, ◌∙◌, subst, Result, Ok, Err, OnOk}
 use Rattle.std.proofs.lemmas.List.{take_more}
 use Rattle.sx_tree.specs.declared.json.Json.{Json}
 use Rattle.sx_tree.specs.Text.{IsText}
 use Rattle.sx_tree.specs.Value.{value_of, values_of, fields_of}
+use Rattle.sx_tree.specs.Names.{names_of}
+use Rattle.sx_model.specs.Grammar.{names_in}
 use Rattle.sx_model.specs.Limits.{KeepsLimits, ElementsKeepLimits, MembersKeepLimits}
 
 elements_keep-push : (xs : List Json) (x : Json) → ElementsKeepLimits (values_of xs) → KeepsLimits (value_of x) → ElementsKeepLimits (values_of (xs ++ x ∷ []))
@@ -26,3 +28,7 @@ members_keep-more ms i m below is h t k =
 pub on_ok : {T E : Type 0} (P : Type 0) (r : Result T E) → P → OnOk r P
 on_ok P (Ok x) p = p
 on_ok P (Err e) p = tt
+
+pub names_in-fields_of : (members : List (List ℕ × Json)) → names_in (fields_of members) ≡ names_of members
+names_in-fields_of [] = refl
+names_in-fields_of (m ∷ ms) = ap (λ l. m.0 ∷ l) (names_in-fields_of ms)

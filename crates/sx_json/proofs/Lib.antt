@@ -3,14 +3,10 @@ pub mod StringTexts
 pub mod Results
 pub mod OneStringFault
 pub mod Fronts
-pub mod Turns
-pub mod MemberTurns
-pub mod Blanks
-pub mod ScalarReads
 pub mod FaultScalars
-pub mod Steps
-pub mod FaultSteps
+pub mod Places
+pub mod Nested
 pub mod OneFault
 pub mod Skipping
-pub mod Texts
 pub mod Growing
+pub mod Runs

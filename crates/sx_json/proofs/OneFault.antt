@@ -1,5 +1,5 @@
 -- A text has at most one fault, and none where it spells a value.
-use Rattle.std.proofs.Common.{cond, eqb, ltb, lt-ltb, le-ltb, ne_eqb, ◌≡◌, ◌&&◌, ℕ, zero, suc, ◌-◌, ◌≤◌, ◌<◌, ◌⊎◌, inl, inr, List, [], ◌∷◌, ◌++◌, refl, ap, sym, ◌∙◌, subst, arith, append_assoc, length, take, drop, get_or, codes, false, Contains}
+use Rattle.std.proofs.Common.{Some, slice_get, cond, eqb, ltb, lt-ltb, le-ltb, ne_eqb, ◌≡◌, ◌&&◌, ℕ, zero, suc, ◌-◌, ◌≤◌, ◌<◌, ◌⊎◌, inl, inr, List, [], ◌∷◌, ◌++◌, refl, ap, sym, ◌∙◌, subst, arith, append_assoc, length, take, drop, get_or, codes, false, Contains}
 use Rattle.std.proofs.lemmas.List.{get_or-take, length-take-le, take-take}
 use Rattle.std.proofs.lemmas.Str.{utf8_valid_len-IsValidUpTo}
 use Rattle.std.specs.Str.{IsValidUpTo}
@@ -22,13 +22,22 @@ use Rattle.sx_json.proofs.OneStringFault.{quoted_not_fault, quoted_fault_same, q
 use Rattle.sx_model.proofs.OneString.{string_same}
 use Rattle.sx_model.proofs.FirstBytes.{blank_small, First, a_string, a_number, a_true, a_false, a_null, an_array, an_object, first_of, no_value_of_nothing, other_first, bracket_not_first}
 use Rattle.sx_json.proofs.FaultScalars.{number_longest, longest_one}
-use Rattle.sx_json.proofs.FaultSteps.{next_here, next_skips}
+use Rattle.sx_json.proofs.Places.{next_here, next_map, next_skips}
 use Rattle.sx_model.proofs.FirstBytes.{solid_from}
 use Rattle.sx_model.proofs.FirstBytes.{value_solid}
 use Rattle.sx_tree.proofs.NumberBytes.{AreNumberBytes-at, front_is}
 use Rattle.sx_model.proofs.Ends.{IsEnd, apart, elements_end, members_end}
-use Rattle.sx_json.proofs.MemberTurns.{Behind, slice_get_left, slice_get_seam}
+use Rattle.sx_model.proofs.Tokens as token
 use Rattle.sx_tree.proofs.NameLists.{slice_get-Contains}
+
+slice_get_left : (xs ys : List (List ℕ)) (i : ℕ) (x : List ℕ) → slice_get xs i ≡ Some x → slice_get (xs ++ ys) i ≡ Some x
+slice_get_left [] ys i x e = absurd (cc)
+slice_get_left (y ∷ xs) ys zero x e = e
+slice_get_left (y ∷ xs) ys (suc i) x e = slice_get_left xs ys i x e
+
+slice_get_seam : (xs ys : List (List ℕ)) (x : List ℕ) → slice_get (xs ++ x ∷ ys) (length xs) ≡ Some x
+slice_get_seam [] ys x = refl
+slice_get_seam (y ∷ xs) ys x = slice_get_seam xs ys x
 
 -- what reading comes to: the rest behind what is whole, or a fault
 pub data Out : Type 0 where
@@ -193,9 +202,6 @@ ends_before (scalar Null) after h = tt
 ends_before (array vs) after h = tt
 ends_before (object fs) after h = tt
 
-next_map : (P Q : List ℕ → Type 0) (bytes : List ℕ) → ((b : List ℕ) → P b → Q b) → Next P bytes → Next Q bytes
-next_map P Q bytes f n = (n.0, n.1, n.2, f n.0 n.3)
-
 abbrev Element : Value → ℕ → Values → List ℕ → List ℕ → Type 0
 Element v room vs left d = (a : List ℕ) × ValueAt v room d a × MoreElementsAt vs room a left
 
@@ -231,9 +237,9 @@ unfolding AfterItem Members
 whole_members end room no_fields names after left distinct h =
     (0, next_map (λ b. b ≡ 125 ∷ left) (λ b. AfterItem end 125 (λ e. Members end room 0 names e (whole left)) b (whole left)) after (λ b is. inr (inr (left, is, refl))) (led_next (λ b. b ≡ 125 ∷ left) after (λ b is. solid_from 125 b left (omega arith) is) h))
 whole_members end room (field_then name v fs) names after left distinct h =
-    let comma = led_next (λ b. (behind : List ℕ) × (b ≡ 44 ∷ behind) × Led (NameThen name (Behind v room fs left)) behind) after (λ b p. solid_from 44 b p.0 (omega arith) p.1) h in
-    let place = led_next (NameThen name (Behind v room fs left)) comma.3.0 (λ b p. solid_from 34 b p.0 (omega arith) p.2) comma.3.2 in
-    let new = named names name (Behind v room fs left) place.0 (λ b p byte rest is blank. value_solid v room byte rest p.0 blank (subst (λ l. ValueAt v room l p.0) is p.1)) (distinct_fresh names name (names_in fs) distinct) place.3 in
+    let comma = led_next (λ b. (behind : List ℕ) × (b ≡ 44 ∷ behind) × Led (NameThen name (token.Member v fs room left)) behind) after (λ b p. solid_from 44 b p.0 (omega arith) p.1) h in
+    let place = led_next (NameThen name (token.Member v fs room left)) comma.3.0 (λ b p. solid_from 34 b p.0 (omega arith) p.2) comma.3.2 in
+    let new = named names name (token.Member v fs room left) place.0 (λ b p byte rest is blank. value_solid v room byte rest p.0 blank (subst (λ l. ValueAt v room l p.0) is p.1)) (distinct_fresh names name (names_in fs) distinct) place.3 in
     let value = new.5.3.2 in
     let a = value.3.0 in
     let more = whole_members end room fs (names ++ name ∷ []) a left (subst AreDistinct (sym (append_assoc names (name ∷ []) (names_in fs))) distinct) value.3.2 in
@@ -289,9 +295,9 @@ object_out end room no_fields rest left distinct h = list_ends 125 (λ n b out. 
 object_out end room (field_then name v fs) rest left distinct h =
     let more = whole_members end room (field_then name v fs) [] (44 ∷ rest) left distinct (inl (rest, refl, h)) in
     let members = behind_comma end 125 (λ d. Members end room more.0 [] d (whole left)) rest (whole left) (λ e. omega (arith, e)) more.1 in
-    let place = led_next (NameThen name (Behind v room fs left)) rest (λ b p. solid_from 34 b p.0 (omega arith) p.2) h in
-    next_map (λ b. NameThen name (Behind v room fs left) b × Members end room more.0 [] b (whole left)) (Listed 125 (λ n b out. Members end room n [] b out) (whole left)) rest
-    (λ b p. inr (λ r is. omega (arith, (heads 34 125 p.0.0 r (sym p.0.2 ∙ is)).0), more.0, p.1)) (next_pair (NameThen name (Behind v room fs left)) (λ d. Members end room more.0 [] d (whole left)) rest place members)
+    let place = led_next (NameThen name (token.Member v fs room left)) rest (λ b p. solid_from 34 b p.0 (omega arith) p.2) h in
+    next_map (λ b. NameThen name (token.Member v fs room left) b × Members end room more.0 [] b (whole left)) (Listed 125 (λ n b out. Members end room n [] b out) (whole left)) rest
+    (λ b p. inr (λ r is. omega (arith, (heads 34 125 p.0.0 r (sym p.0.2 ∙ is)).0), more.0, p.1)) (next_pair (NameThen name (token.Member v fs room left)) (λ d. Members end room more.0 [] d (whole left)) rest place members)
 
 -- A literal name.
 abbrev WordOut : ℕ → List ℕ → List ℕ → Out → Type 0

@@ -5,10 +5,9 @@ use Rattle.sx_model.specs.Strings.{DigitAt, UnitAt, LowAt, IsLowSurrogate, Strin
 use Rattle.sx_model.specs.StringFaults.{UnicodeAt, EscapeAt, PieceAt, DigitsFault, LowEscapeFault, LowFault, UnicodeFault, EscapeFault, PieceFault, QuotedFault, QuoteFault, StringFault, in_piece, too_long, behind}
 use Rattle.sx_tree.specs.Text.{IsText}
 use Rattle.sx_tree.specs.declared.json_fault.JsonFault.{JsonFault}
-use Rattle.sx_json.specs.Reading.{ReadsText}
 use Rattle.sx_model.proofs.Units.{DigitAt-same, first_digit, unit_same}
 use Rattle.sx_model.proofs.StringShapes.{heads}
-use Rattle.sx_model.proofs.OneString.{short_not_u, not_u, scalar_or, piece_same, Chain, ends, goes, chain_of, no_piece_at_quote, string_same}
+use Rattle.sx_model.proofs.OneString.{short_not_u, not_u, scalar_or, piece_same, Chain, ends, goes, chain_of, no_piece_at_quote}
 
 digits_step : (end count : ℕ) (bytes left : List ℕ) (digit : ℕ) (f : JsonFault) → DigitAt bytes digit left → DigitsFault end (suc count) bytes f → DigitsFault end count left f
 digits_step end count bytes left digit f at (inl h) = absurd (h.0 digit left at)
@@ -138,10 +137,9 @@ chain_not_fault end start count bytes c l f (goes b c' l' x a more p s is) (behi
     let same = piece_same bytes x y a z p q in
     chain_not_fault end start (count + length y) a more l f s (subst (λ r. StringFault end start (count + length y) r f) (sym same.1) h) (omega (arith, fits, ap length same.0, ap length is, length-append x more))
 
-pub text_read : (bytes content left after text : List ℕ) → ((more l : List ℕ) → StringAt left more l → StringAt bytes (content ++ more) l) → left ≡ 34 ∷ after → text ≡ content → IsText content → ReadsText bytes text after
+pub text_read : (bytes content left after text : List ℕ) → ((more l : List ℕ) → StringAt left more l → StringAt bytes (content ++ more) l) → left ≡ 34 ∷ after → text ≡ content → IsText content → TextAt bytes text after
 text_read bytes content left after text leads is same good =
-    let whole : StringAt bytes text after = subst (λ t. StringAt bytes t after) (append-nil content ∙ sym same) (leads [] after (subst (λ l. StringAt l [] after) (sym is) (closing after))) in
-    ((whole, subst IsText (sym same) good), λ c l s. string_same bytes c text l after s.0 whole)
+    (subst (λ t. StringAt bytes t after) (append-nil content ∙ sym same) (leads [] after (subst (λ l. StringAt l [] after) (sym is) (closing after))), subst IsText (sym same) good)
 
 -- A string that is whole within the limit has no fault.
 pub string_not_fault : (end start : ℕ) (bytes c l : List ℕ) (f : JsonFault) → TextAt bytes c l → StringFault end start 0 bytes f → ⊥

@@ -1,5 +1,5 @@
 -- Facts on one side of a result.
-use Rattle.std.proofs.Common.{◌≡◌, refl, sym, subst, inl, inr, Result, Ok, Err, IfOk, IfErr, MatchResult}
+use Rattle.std.proofs.Common.{◌≡◌, sym, subst, inl, inr, Result, Ok, Err, IfOk, IfErr, MatchResult}
 use Rattle.sx_tree.specs.declared.json_fault.JsonFault.{JsonFault}
 use Rattle.sx_tree.specs.declared.json_fault.JsonFault.TheVariants.{BadByte, TooDeep, DuplicateName, LoneSurrogate, NumberTooLong, StringTooLong, Ended, OutOfMemory}
 use Rattle.sx_json.specs.Reading.{Refuses, UnlessMemory}
@@ -17,17 +17,6 @@ refuses_all P (NumberTooLong place) p = p
 refuses_all P (StringTooLong place) p = p
 refuses_all P Ended p = p
 refuses_all P OutOfMemory p = tt
-
--- A fault that speaks of no text can only be want of memory where there is one.
-pub memory_alone : (P : Type 0) (f : JsonFault) → Refuses P f → (P → ⊥) → f ≡ OutOfMemory
-memory_alone P (BadByte place) p none = absurd (none p)
-memory_alone P (TooDeep place) p none = absurd (none p)
-memory_alone P (DuplicateName place) p none = absurd (none p)
-memory_alone P (LoneSurrogate place) p none = absurd (none p)
-memory_alone P (NumberTooLong place) p none = absurd (none p)
-memory_alone P (StringTooLong place) p none = absurd (none p)
-memory_alone P Ended p none = absurd (none p)
-memory_alone P OutOfMemory p none = refl
 
 pub unless_map : (P Q : JsonFault → Type 0) (f : JsonFault) → (P f → Q f) → UnlessMemory P f → UnlessMemory Q f
 unless_map P Q f h (inl e) = inl e

@@ -1,5 +1,3 @@
 pub mod Reading
 pub mod Piece
-pub mod Frames
-pub mod Outcome
-pub mod FaultFrames
+pub mod Nested

@@ -1,12 +1,11 @@
--- What a reading of strings found: for the reader's own functions.
-use Rattle.std.specs.Prelude.{ℕ, ◌≡◌, ◌⊎◌, List}
+-- What a reading found: for the reader's own functions.
+use Rattle.std.specs.Prelude.{ℕ, ◌≡◌, ◌≤◌, ◌⊎◌, List, length, IsUtf8}
 use Rattle.sx_tree.specs.declared.json_fault.JsonFault.{JsonFault}
 use Rattle.sx_tree.specs.declared.json_fault.JsonFault.TheVariants.{BadByte, TooDeep, DuplicateName, LoneSurrogate, NumberTooLong, StringTooLong, Ended, OutOfMemory}
-use Rattle.sx_model.specs.Strings.{TextAt}
 
--- The text and the rest are the only ones.
-abbrev pub ReadsText : List ℕ → List ℕ → List ℕ → Type 0
-ReadsText bytes content after = TextAt bytes content after × ((c l : List ℕ) → TextAt bytes c l → (c ≡ content) × (l ≡ after))
+-- What is left is in UTF-8 and no longer.
+abbrev pub GoesOn : List ℕ → List ℕ → Type 0
+GoesOn bytes left = IsUtf8 left × (length left ≤ length bytes)
 
 -- The fault is this one, or want of memory.
 abbrev pub UnlessMemory : (JsonFault → Type 0) → JsonFault → Type 0

@@ -1,20 +1,17 @@
-//! Reads a JSON text, token by token, with the open arrays and objects on a stack.
-ghost use Rattle.std.specs.Prelude.{◌≡◌, ◌<◌, ◌≤◌, ◌∷◌, ◌++◌, ◌↔◌, [], ℕ, Contains, IfErr, IfOk, IsTrue, IsUtf8, MatchResult, length};
+//! Reads a JSON text: each function reads what one production of the grammar says (RFC 8259).
+ghost use Rattle.std.specs.Prelude.{◌≡◌, ◌<◌, ◌↔◌, ◌∷◌, ◌++◌, [], ℕ, Contains, IfErr, IfOk, IsTrue, IsUtf8, MatchResult, OnOk, length};
 ghost use Rattle.std.specs.Str.{IsValidUpTo};
 ghost use Rattle.sx_tree.specs.Names.{AreDistinct, names_of};
-ghost use Rattle.sx_tree.specs.Value.{Value, value_of};
-ghost use Rattle.sx_json.specs.Frames.{Follows, HasRoom, Steps};
-ghost use Rattle.sx_model.specs.Grammar.{BeginsOther, IsSolid, Spells};
-ghost use Rattle.sx_model.specs.Faults.{Faults, TextFault};
-ghost use Rattle.sx_json.specs.FaultFrames.{FollowsFault, GoesOn};
-ghost use Rattle.sx_tree.specs.declared.json_fault.JsonFault.TheVariants.{OutOfMemory};
-ghost use Rattle.sx_json.specs.Outcome.{IsOutcome, Reads};
-ghost use Rattle.sx_json.specs.Reading.{Refuses, UnlessMemory};
+ghost use Rattle.sx_tree.specs.Value.{Value, value_of, values_of, fields_of};
+ghost use Rattle.sx_model.specs.Grammar.{ElementsAt, IsSolid, MembersAt, Spells};
+ghost use Rattle.sx_model.specs.Faults.{Faults, TextFault, ValueFault, WholeAt};
+ghost use Rattle.sx_model.specs.StringFaults.{QuoteFault};
+ghost use Rattle.sx_json.specs.Nested.{ArrayFault, MarkThen, IsFirstFault, IsStep, IsTaken, MemberAt, BehindNameFault, NoColon, NoStep, ObjectFault, QuotedAt};
+ghost use Rattle.sx_json.specs.Reading.{GoesOn, Refuses, UnlessMemory};
 
 use crate::fault::{JsonFault, at_cut};
 use crate::scalars::{behind, scalar_at, skip_blanks, unexpected};
 use crate::strings::{place, string_at};
-use sqlite_items::Items as Stack;
 use std::alloc::Global;
 use std::str;
 use sx_tree::json::{Items, Json, Members};
@@ -24,105 +21,29 @@ use sx_tree::text::Text;
 /// How many arrays and objects may nest.
 pub const NESTING: usize = 256;
 
-/// An array or an object that is open where a value is awaited in it.
-#[derive(Drop)]
-pub(crate) enum Frame {
-    /// The values so far.
-    Array(Items),
-    /// The members so far, and the name of the awaited value.
-    Member(Members, Text),
+/// How an array or an object goes on behind an element or a member.
+pub(crate) enum Step<'a> {
+    /// With the next one, at the front of these bytes.
+    More(&'a [u8]),
+    /// It ends, and this is left.
+    Closed(&'a [u8]),
 }
 
-/// What is to come.
-#[derive(Drop)]
-pub(crate) enum Turn {
-    /// A value.
-    Value,
-    /// A value or the bracket that closes the array.
-    FirstValue,
-    /// A name or the brace that closes the object.
-    FirstName,
-    /// A name in an object with these members.
-    Name(Members),
-    /// What follows this value.
-    After(Json),
-}
-
-/// Goes on where a value is awaited.
-fn value_at<'a>(
-    alloc: Global,
-    end: usize,
-    frames: &Stack<Frame>,
-    bytes: &'a [u8],
-) -> Result<(Turn, &'a [u8]), JsonFault>
-    requires solid { IsSolid bytes.now }
-    requires room { length frames.now ≤ 256 }
+/// Goes on behind an element or a member: with a comma, or with the byte that closes the array or object.
+fn step_at(end: usize, closing: u8, bytes: &[u8]) -> Result<Step<'_>, JsonFault>
+    requires small { closing < 128 }
     requires utf8 { IsUtf8 bytes.now }
-    ensures room { IfOk result (λ p. HasRoom p.0 frames.now) }
-    ensures ok { IfOk result (λ p. Steps Turn.Value frames.now bytes.now p.0 frames.now p.1.now) }
-    ensures keeps { IfOk result (λ p. GoesOn end Turn.Value frames.now bytes.now p.0 frames.now p.1.now) }
-    ensures fault { IfErr result (UnlessMemory (FollowsFault end Turn.Value frames.now bytes.now)) }
+    ensures ok { IfOk result (IsStep closing bytes.now) }
+    ensures fault { IfErr result (NoStep end closing bytes.now) }
 {
-    let too_deep = JsonFault::TooDeep {
-        at: place(end, bytes),
-    };
-    if let Some(after) = behind(bytes, b'[') {
-        return if frames.len() < NESTING {
-            Ok((Turn::FirstValue, after))
-        } else {
-            Err(too_deep)
-        };
+    let next = skip_blanks(bytes);
+    if let Some(after) = behind(next, b',') {
+        let rest = skip_blanks(after);
+        return Ok(Step::More(rest));
     }
-    if let Some(after) = behind(bytes, b'{') {
-        return if frames.len() < NESTING {
-            Ok((Turn::FirstName, after))
-        } else {
-            Err(too_deep)
-        };
-    }
-    match scalar_at(alloc, end, bytes) {
-        Ok((scalar, left)) => Ok((Turn::After(Json::Scalar(scalar)), left)),
-        Err(fault) => Err(fault),
-    }
-}
-
-/// Goes on behind an opening bracket.
-fn first_value<'a>(
-    alloc: Global,
-    frames: &mut Stack<Frame>,
-    bytes: &'a [u8],
-) -> Result<(Turn, &'a [u8]), JsonFault>
-    requires solid { IsSolid bytes.now }
-    requires room { length frames.old < 256 }
-    requires utf8 { IsUtf8 bytes.now }
-    ensures room { IfOk result (λ p. HasRoom p.0 frames.new) }
-    ensures ok { IfOk result (λ p. Steps Turn.FirstValue frames.old bytes.now p.0 frames.new p.1.now) }
-    ensures memory { IfErr result (λ e. e ≡ OutOfMemory) }
-    ensures keeps { (end : ℕ) → IfOk result (λ p. GoesOn end Turn.FirstValue frames.old bytes.now p.0 frames.new p.1.now) }
-{
-    let items = Items::new(alloc);
-    match behind(bytes, b']') {
-        Some(after) => Ok((Turn::After(Json::Array(items)), after)),
-        None => {
-            frames.push(Frame::Array(items))?;
-            Ok((Turn::Value, bytes))
-        }
-    }
-}
-
-/// Goes on behind an opening brace.
-fn first_name<'a>(alloc: Global, frames: &Stack<Frame>, bytes: &'a [u8]) -> (Turn, &'a [u8])
-    requires solid { IsSolid bytes.now }
-    requires room { length frames.now < 256 }
-    requires utf8 { IsUtf8 bytes.now }
-    ensures room { HasRoom result.0 frames.now }
-    ensures ok { Steps Turn.FirstName frames.now bytes.now result.0 frames.now result.1.now }
-    ensures keeps { (end : ℕ) → GoesOn end Turn.FirstName frames.now bytes.now result.0 frames.now result.1.now }
-{
-    let members = Members::new(alloc);
-    match behind(bytes, b'}') {
-        Some(after) => (Turn::After(Json::Object(members)), after),
-        None => (Turn::Name(members), bytes),
+    match behind(next, closing) {
+        Some(left) => Ok(Step::Closed(left)),
+        None => Err(unexpected(end, next)),
     }
 }
 
@@ -136,108 +57,65 @@ fn has_name(members: &Members, name: &Text) -> bool
     }
 }
 
-/// Goes on where a name is awaited.
-fn name_at<'a>(
-    alloc: Global,
-    end: usize,
-    frames: &mut Stack<Frame>,
-    members: Members,
-    bytes: &'a [u8],
-) -> Result<(Turn, &'a [u8]), JsonFault>
-    requires solid { IsSolid bytes.now }
-    requires room { length frames.old < 256 }
+/// The name at the front of the bytes, and the rest.
+fn name_at(alloc: Global, end: usize, bytes: &[u8]) -> Result<(Text, &[u8]), JsonFault>
     requires utf8 { IsUtf8 bytes.now }
-    ensures room { IfOk result (λ p. HasRoom p.0 frames.new) }
-    ensures ok { IfOk result (λ p. Steps (Turn.Name members) frames.old bytes.now p.0 frames.new p.1.now) }
-    ensures keeps { IfOk result (λ p. GoesOn end (Turn.Name members) frames.old bytes.now p.0 frames.new p.1.now) }
-    ensures fault { IfErr result (UnlessMemory (FollowsFault end (Turn.Name members) frames.old bytes.now)) }
+    ensures ok { IfOk result (λ p. QuotedAt p.0 bytes.now p.1.now) }
+    ensures goes_on { IfOk result (λ p. GoesOn bytes.now p.1.now) }
+    ensures fault { IfErr result (UnlessMemory (QuoteFault end bytes.now)) }
 {
-    let at = place(end, bytes);
     let inside = match behind(bytes, b'"') {
         Some(inside) => inside,
         None => return Err(unexpected(end, bytes)),
     };
-    let (name, after) = match string_at(alloc, end, inside) {
-        Ok(read) => read,
-        Err(fault) => return Err(fault),
-    };
-    if has_name(&members, &name) {
-        return Err(JsonFault::DuplicateName { at });
-    }
-    let colon = skip_blanks(after);
-    match behind(colon, b':') {
-        Some(rest) => {
-            frames.push(Frame::Member(members, name))?;
-            Ok((Turn::Value, rest))
-        }
-        None => Err(unexpected(end, colon)),
-    }
+    let (name, after) = string_at(alloc, end, inside)?;
+    Ok((name, after))
 }
 
-/// Goes on behind a value in an array with these items before it.
-fn after_element<'a>(
-    end: usize,
-    frames: &mut Stack<Frame>,
-    items: Items,
-    value: Json,
-    bytes: &'a [u8],
-) -> Result<(Turn, &'a [u8]), JsonFault>
-    requires solid { IsSolid bytes.now }
-    requires room { length frames.old < 256 }
+/// What stands behind the colon that is to follow a name.
+fn colon_at(end: usize, bytes: &[u8]) -> Result<&[u8], JsonFault>
     requires utf8 { IsUtf8 bytes.now }
-    ensures room { IfOk result (λ p. HasRoom p.0 frames.new) }
-    ensures ok { IfOk result (λ p. Steps (Turn.After value) (frames.old ++ Frame.Array items ∷ []) bytes.now p.0 frames.new p.1.now) }
-    ensures keeps { IfOk result (λ p. GoesOn end (Turn.After value) (frames.old ++ Frame.Array items ∷ []) bytes.now p.0 frames.new p.1.now) }
-    ensures fault { IfErr result (UnlessMemory (FollowsFault end (Turn.After value) (frames.old ++ Frame.Array items ∷ []) bytes.now)) }
+    ensures ok { IfOk result (λ left. MarkThen 58 bytes.now left.now) }
+    ensures goes_on { IfOk result (λ left. GoesOn bytes.now left.now) }
+    ensures fault { IfErr result (NoColon end bytes.now) }
 {
-    let mut longer = items;
-    longer.push(value)?;
-    match behind(bytes, b',') {
+    let next = skip_blanks(bytes);
+    match behind(next, b':') {
         Some(after) => {
-            frames.push(Frame::Array(longer))?;
-            Ok((Turn::Value, after))
+            let rest = skip_blanks(after);
+            Ok(rest)
         }
-        None => match behind(bytes, b']') {
-            Some(after) => Ok((Turn::After(Json::Array(longer)), after)),
-            None => Err(unexpected(end, bytes)),
-        },
+        None => Err(unexpected(end, next)),
     }
 }
 
-/// Goes on behind a value in an object with these members before it.
-fn after_member<'a>(
+/// The fault of a member with this name, behind which this one was found: a repeated name comes first.
+fn member_fault(members: &Members, name: &Text, at: u64, found: JsonFault) -> JsonFault
+    ensures { IsFirstFault (names_of members.now) name.now at found result }
+{
+    if has_name(members, name) {
+        JsonFault::DuplicateName { at }
+    } else {
+        found
+    }
+}
+
+/// Adds a member, whose name stands at this place.
+fn add_member(
     alloc: Global,
-    end: usize,
-    frames: &Stack<Frame>,
-    members: Members,
+    at: u64,
+    members: &mut Members,
     name: Text,
     value: Json,
-    bytes: &'a [u8],
-) -> Result<(Turn, &'a [u8]), JsonFault>
-    requires solid { IsSolid bytes.now }
-    requires room { length frames.now < 256 }
-    requires utf8 { IsUtf8 bytes.now }
-    ensures room { IfOk result (λ p. HasRoom p.0 frames.now) }
-    ensures ok { IfOk result (λ p. Steps (Turn.After value) (frames.now ++ Frame.Member members name ∷ []) bytes.now p.0 frames.now p.1.now) }
-    ensures keeps { IfOk result (λ p. GoesOn end (Turn.After value) (frames.now ++ Frame.Member members name ∷ []) bytes.now p.0 frames.now p.1.now) }
-    ensures fault { IfErr result (UnlessMemory (FollowsFault end (Turn.After value) (frames.now ++ Frame.Member members name ∷ []) bytes.now)) }
+) -> Result<(), JsonFault>
+    ensures ok { OnOk result (members.new ≡ members.old ++ (name, value) ∷ []) }
+    ensures new_name { OnOk result (Contains (names_of members.old) name → ⊥) }
+    ensures fault { IfErr result (UnlessMemory (IsTaken (names_of members.old) name at)) }
 {
-    let mut longer = members;
-    match longer.push(alloc, name, value) {
-        Ok(()) => {}
-        Err(MemberFault::OutOfMemory) => return Err(JsonFault::OutOfMemory),
-        Err(MemberFault::Taken { .. }) => {
-            return Err(JsonFault::DuplicateName {
-                at: place(end, bytes),
-            });
-        }
-    }
-    match behind(bytes, b',') {
-        Some(after) => Ok((Turn::Name(longer), after)),
-        None => match behind(bytes, b'}') {
-            Some(after) => Ok((Turn::After(object_of(longer)), after)),
-            None => Err(unexpected(end, bytes)),
-        },
+    match members.push(alloc, name, value) {
+        Ok(()) => Ok(()),
+        Err(MemberFault::Taken { .. }) => Err(JsonFault::DuplicateName { at }),
+        Err(MemberFault::OutOfMemory) => Err(JsonFault::OutOfMemory),
     }
 }
 
@@ -250,103 +128,132 @@ fn object_of(members: Members) -> Json
     Json::Object(members)
 }
 
-/// What one turn found.
-pub(crate) enum Outcome<'a> {
-    /// What is to come, and the bytes that are left.
-    Goes(Turn, &'a [u8]),
-    /// The value of the text.
-    Done(Json),
-}
-
-/// Goes on behind a value.
-fn after_value<'a>(
+/// The value at the front of the bytes, and the rest. The room is how many arrays and objects may nest there.
+#[cycle(read)]
+fn value_at(
     alloc: Global,
     end: usize,
-    frames: &mut Stack<Frame>,
-    value: Json,
-    bytes: &'a [u8],
-) -> Result<Outcome<'a>, JsonFault>
-    requires solid { IsSolid bytes.now }
-    requires room { length frames.old ≤ 256 }
+    room: usize,
+    bytes: &[u8],
+) -> Result<(Json, &[u8]), JsonFault>
     requires utf8 { IsUtf8 bytes.now }
-    ensures ok { IfOk result (IsOutcome end (Turn.After value) frames.old frames.new bytes.now) }
-    ensures fault { IfErr result (UnlessMemory (FollowsFault end (Turn.After value) frames.old bytes.now)) }
+    ensures ok { IfOk result (λ p. WholeAt (value_of p.0) room bytes.now p.1.now) }
+    ensures goes_on { IfOk result (λ p. GoesOn bytes.now p.1.now) }
+    ensures fault { IfErr result (UnlessMemory (ValueFault end room bytes.now)) }
 {
-    match frames.pop() {
-        None => match bytes.split_first() {
-            None => Ok(Outcome::Done(value)),
-            Some((first, after)) => Err(JsonFault::BadByte {
-                at: place(end, bytes),
-            }),
-        },
-        Some(Frame::Array(items)) => {
-            let (next, rest) = after_element(end, frames, items, value, bytes)?;
-            Ok(Outcome::Goes(next, rest))
+    let too_deep = JsonFault::TooDeep {
+        at: place(end, bytes),
+    };
+    if let Some(inside) = behind(bytes, b'[') {
+        if room == 0 {
+            return Err(too_deep);
         }
-        Some(Frame::Member(members, name)) => {
-            let (next, rest) = after_member(alloc, end, frames, members, name, value, bytes)?;
-            Ok(Outcome::Goes(next, rest))
+        let (items, left) = array_at(alloc, end, room - 1, inside)?;
+        return Ok((Json::Array(items), left));
+    }
+    if let Some(inside) = behind(bytes, b'{') {
+        if room == 0 {
+            return Err(too_deep);
+        }
+        let (members, left) = object_at(alloc, end, room - 1, inside)?;
+        return Ok((object_of(members), left));
+    }
+    let (scalar, left) = scalar_at(alloc, end, bytes)?;
+    Ok((Json::Scalar(scalar), left))
+}
+
+/// The elements of an array behind its opening bracket, and the rest behind the closing one.
+#[cycle(read)]
+fn array_at(
+    alloc: Global,
+    end: usize,
+    room: usize,
+    bytes: &[u8],
+) -> Result<(Items, &[u8]), JsonFault>
+    requires utf8 { IsUtf8 bytes.now }
+    ensures ok { IfOk result (λ p. ElementsAt (values_of p.0) room bytes.now p.1.now) }
+    ensures goes_on { IfOk result (λ p. GoesOn bytes.now p.1.now) }
+    ensures fault { IfErr result (UnlessMemory (ArrayFault end room bytes.now)) }
+{
+    let mut items = Items::new(alloc);
+    let mut rest = skip_blanks(bytes);
+    if let Some(after) = behind(rest, b']') {
+        return Ok((items, after));
+    }
+    loop {
+        let (value, after) = value_at(alloc, end, room, rest)?;
+        items.push(value)?;
+        match step_at(end, b']', after)? {
+            Step::More(next) => rest = next,
+            Step::Closed(left) => return Ok((items, left)),
         }
     }
 }
 
-/// One turn. No white space stands at the front of the bytes.
-fn turn_at<'a>(
+/// The value of a member behind its name, and the rest.
+#[cycle(read)]
+fn member_at(
     alloc: Global,
     end: usize,
-    frames: &mut Stack<Frame>,
-    turn: Turn,
-    bytes: &'a [u8],
-) -> Result<Outcome<'a>, JsonFault>
-    requires solid { IsSolid bytes.now }
-    requires room { HasRoom turn frames.old }
+    room: usize,
+    bytes: &[u8],
+) -> Result<(Json, &[u8]), JsonFault>
     requires utf8 { IsUtf8 bytes.now }
-    ensures ok { IfOk result (IsOutcome end turn frames.old frames.new bytes.now) }
-    ensures fault { IfErr result (UnlessMemory (FollowsFault end turn frames.old bytes.now)) }
+    ensures ok { IfOk result (λ p. MemberAt (value_of p.0) room bytes.now p.1.now) }
+    ensures goes_on { IfOk result (λ p. GoesOn bytes.now p.1.now) }
+    ensures fault { IfErr result (UnlessMemory (BehindNameFault end room bytes.now)) }
 {
-    match turn {
-        Turn::Value => {
-            let (next, rest) = value_at(alloc, end, frames, bytes)?;
-            Ok(Outcome::Goes(next, rest))
+    let inside = colon_at(end, bytes)?;
+    let (value, after) = value_at(alloc, end, room, inside)?;
+    Ok((value, after))
+}
+
+/// The members of an object behind its opening brace, and the rest behind the closing one.
+#[cycle(read)]
+fn object_at(
+    alloc: Global,
+    end: usize,
+    room: usize,
+    bytes: &[u8],
+) -> Result<(Members, &[u8]), JsonFault>
+    requires utf8 { IsUtf8 bytes.now }
+    ensures ok { IfOk result (λ p. MembersAt (fields_of p.0) room bytes.now p.1.now) }
+    ensures goes_on { IfOk result (λ p. GoesOn bytes.now p.1.now) }
+    ensures fault { IfErr result (UnlessMemory (ObjectFault end room bytes.now)) }
+{
+    let mut members = Members::new(alloc);
+    let mut rest = skip_blanks(bytes);
+    if let Some(after) = behind(rest, b'}') {
+        return Ok((members, after));
+    }
+    loop {
+        let at = place(end, rest);
+        let (name, colon) = name_at(alloc, end, rest)?;
+        let (value, after) = match member_at(alloc, end, room, colon) {
+            Ok(read) => read,
+            Err(found) => return Err(member_fault(&members, &name, at, found)),
+        };
+        add_member(alloc, at, &mut members, name, value)?;
+        match step_at(end, b'}', after)? {
+            Step::More(next) => rest = next,
+            Step::Closed(left) => return Ok((members, left)),
         }
-        Turn::FirstValue => {
-            let (next, rest) = first_value(alloc, frames, bytes)?;
-            Ok(Outcome::Goes(next, rest))
-        }
-        Turn::FirstName => {
-            let (next, rest) = first_name(alloc, frames, bytes);
-            Ok(Outcome::Goes(next, rest))
-        }
-        Turn::Name(members) => {
-            let (next, rest) = name_at(alloc, end, frames, members, bytes)?;
-            Ok(Outcome::Goes(next, rest))
-        }
-        Turn::After(value) => after_value(alloc, end, frames, value, bytes),
     }
 }
 
 /// The value of a text whose bytes are in UTF-8.
 fn read_front(alloc: Global, text: &[u8]) -> Result<Json, JsonFault>
     requires utf8 { IsUtf8 text.now }
-    ensures ok { IfOk result (Reads text.now) }
+    ensures ok { IfOk result (λ json. Spells text.now (value_of json)) }
     ensures fault { IfErr result (UnlessMemory (TextFault (length text.now) text.now)) }
 {
-    let mut frames = Stack::new(alloc);
-    let mut turn = Turn::Value;
-    let mut rest = text;
-    // Each turn but those behind an opening bracket takes a byte: there are fewer turns than this.
-    for _ in 0..u64::MAX {
-        let bytes = skip_blanks(rest);
-        match turn_at(alloc, text.len(), &mut frames, turn, bytes) {
-            Ok(Outcome::Goes(next, after)) => {
-                turn = next;
-                rest = after;
-            }
-            Ok(Outcome::Done(value)) => return Ok(value),
-            Err(fault) => return Err(fault),
-        }
+    let bytes = skip_blanks(text);
+    let (value, after) = value_at(alloc, text.len(), NESTING, bytes)?;
+    let rest = skip_blanks(after);
+    match rest.split_first() {
+        None => Ok(value),
+        Some(_) => Err(unexpected(text.len(), rest)),
     }
-    Err(JsonFault::OutOfMemory)
 }
 
 /// The fault of bytes whose longest front in UTF-8 has this length.

@@ -1,8 +1,7 @@
 //! Reads a scalar: a string, a number or a literal name (RFC 8259 sections 3, 6 and 7).
 ghost use Rattle.std.specs.Prelude.{◌≡◌, ◌≢◌, ◌≤◌, ◌++◌, ◌∷◌, ◌↔◌, ℕ, List, IfErr, IfOk, IsTrue, IsUtf8, MatchOption, length};
-ghost use Rattle.sx_json.specs.Frames.{BeginsScalar, ReadsScalar};
 ghost use Rattle.sx_model.specs.Grammar.{BeginsNumberAt, BeginsOther, IsBlank, IsSolid, Skips};
-ghost use Rattle.sx_json.specs.Reading.{Refuses, UnlessMemory};
+ghost use Rattle.sx_json.specs.Reading.{GoesOn, UnlessMemory};
 ghost use Rattle.sx_model.specs.Faults.{NumberFault, ScalarFault, WholeAt, WordFault};
 ghost use Rattle.sx_tree.specs.Value.{scalar};
 ghost use Rattle.sx_model.specs.StringFaults.{unexpected};
@@ -24,6 +23,7 @@ fn is_blank(byte: u8) -> bool
 pub(crate) fn skip_blanks(bytes: &[u8]) -> &[u8]
     ensures skips { Skips bytes.now result.now }
     ensures solid { IsSolid result.now }
+    ensures goes_on { IsUtf8 bytes.now → GoesOn bytes.now result.now }
 {
     let mut rest = bytes;
     while let Some((byte, after)) = rest.split_first() {
@@ -51,10 +51,10 @@ pub(crate) fn scalar_at(
     end: usize,
     bytes: &[u8],
 ) -> Result<(Scalar, &[u8]), JsonFault>
-    requires begins { BeginsScalar bytes.now }
+    requires no_array { BeginsOther 91 bytes.now }
+    requires no_object { BeginsOther 123 bytes.now }
     requires utf8 { IsUtf8 bytes.now }
-    ensures ok { IfOk result (λ p. ReadsScalar bytes.now p.0 p.1.now) }
-    ensures utf8 { IfOk result (λ p. IsUtf8 p.1.now) }
+    ensures goes_on { IfOk result (λ p. GoesOn bytes.now p.1.now) }
     ensures whole { IfOk result (λ p. (room : ℕ) → WholeAt (scalar p.0) room bytes.now p.1.now) }
     ensures fault { IfErr result (UnlessMemory (ScalarFault end bytes.now)) }
 {
@@ -117,8 +117,7 @@ pub(crate) fn unexpected(end: usize, bytes: &[u8]) -> JsonFault
 fn number_at(alloc: Global, end: usize, bytes: &[u8]) -> Result<(Scalar, &[u8]), JsonFault>
     requires begins { BeginsNumberAt bytes.now }
     requires utf8 { IsUtf8 bytes.now }
-    ensures ok { IfOk result (λ p. ReadsScalar bytes.now p.0 p.1.now) }
-    ensures utf8 { IfOk result (λ p. IsUtf8 p.1.now) }
+    ensures goes_on { IfOk result (λ p. GoesOn bytes.now p.1.now) }
     ensures whole { IfOk result (λ p. (room : ℕ) → WholeAt (scalar p.0) room bytes.now p.1.now) }
     ensures fault { IfErr result (UnlessMemory (NumberFault end bytes.now)) }
 {

@@ -1,16 +1,20 @@
 //! Reads a string behind its opening quote (RFC 8259 section 7).
-ghost use Rattle.std.specs.Prelude.{◌≡◌, ◌≢◌, ◌≤◌, ◌<◌, ◌-◌, ◌⊎◌, ℕ, [], ◌∷◌, ◌++◌, List, IfOk, IfErr, IfSome, MatchOption, OnOk, OnErr, IsUtf8, encode_utf8, length};
-ghost use Rattle.sx_model.specs.Strings.{DigitAt, LowAt, NoDigit, UnitAt, IsShortEscape, IsHexDigit, IsHighSurrogate, IsLowSurrogate, pair_char};
+ghost use Rattle.std.specs.Prelude.{◌↔◌, IsTrue, take, ◌≡◌, ◌≢◌, ◌≤◌, ◌<◌, ◌-◌, ◌⊎◌, ℕ, [], ◌∷◌, ◌++◌, List, IfOk, IfErr, IfSome, MatchOption, OnOk, OnErr, IsUtf8, encode_utf8, length};
+ghost use Rattle.sx_model.specs.Strings.{IsPlain, TextAt, DigitAt, LowAt, NoDigit, UnitAt, IsShortEscape, IsHexDigit, IsHighSurrogate, IsLowSurrogate, pair_char};
 ghost use Rattle.sx_tree.specs.Text.{IsText};
-ghost use Rattle.sx_json.specs.Piece.{IsPiece};
+ghost use Rattle.sx_json.specs.Piece.{ArePlain, IsPiece, IsRun, IsTooLong};
 ghost use Rattle.sx_model.specs.StringFaults.{unexpected, DigitsFault, EscapeAt, EscapeFault, LowEscapeFault, LowFault, PieceFault, StringFault, UnicodeAt, UnicodeFault};
 ghost use Rattle.sx_tree.specs.declared.json_fault.JsonFault.TheVariants.{LoneSurrogate};
-ghost use Rattle.sx_json.specs.Reading.{ReadsText, Refuses, UnlessMemory};
+ghost use Rattle.sx_json.specs.Reading.{UnlessMemory};
 
 use crate::fault::JsonFault;
+use crate::scalars::behind;
 use std::alloc::{AllocError, Global};
 use sx_tree::bytes::Bytes;
 use sx_tree::text::{TEXT_BYTES, Text, TextFault};
+
+/// How many bytes a string with escapes has room for at first.
+const ROOM: usize = 64;
 
 /// The place of the rest in a text with this end.
 pub(crate) fn place(end: usize, rest: &[u8]) -> u64
@@ -239,12 +243,47 @@ fn piece_at<'a>(end: usize, bytes: &'a [u8], content: &mut Bytes) -> Result<Piec
     }
 }
 
-/// The text of a string's content. The string's opening quote stands at `start`.
-fn text_of(alloc: Global, start: u64, content: &Bytes) -> Result<Text, JsonFault>
-    ensures ok { IfOk result (λ text. (text ≡ content.now) × IsText content.now) }
-    ensures err { IfErr result (Refuses (IsText content.now → ⊥)) }
+/// Whether the byte stands for itself in a string.
+fn is_plain(byte: u8) -> bool
+    ensures { IsTrue result ↔ IsPlain byte }
 {
-    match Text::new(alloc, content.as_slice()) {
+    byte >= 0x20 && byte != b'"' && byte != b'\\'
+}
+
+/// How many bytes at the front stand for themselves in a string.
+fn plain_len(bytes: &[u8]) -> usize
+    ensures within { result ≤ length bytes.now }
+    ensures plain { ArePlain (take result bytes.now) }
+{
+    for (place, byte) in bytes.iter().enumerate() {
+        if !is_plain(*byte) {
+            return place;
+        }
+    }
+    bytes.len()
+}
+
+/// Takes the bytes at the front that stand for themselves, and adds them to the content of a string whose
+/// opening quote stands at `start`.
+fn run_at<'a>(start: u64, bytes: &'a [u8], content: &mut Bytes) -> Result<&'a [u8], JsonFault>
+    requires { length content.old ≤ 1_048_576 }
+    ensures ok { IfOk result (λ left. IsRun bytes.now content.old content.new left.now) }
+    ensures fault { (end : ℕ) → IfErr result (UnlessMemory (StringFault end start (length content.old) bytes.now)) }
+{
+    let (run, left) = bytes.split_at(plain_len(bytes));
+    content.extend_from_slice(run)?;
+    if content.len() > TEXT_BYTES {
+        return Err(JsonFault::StringTooLong { at: start });
+    }
+    Ok(left)
+}
+
+/// The text of a string's content. The string's opening quote stands at `start`.
+fn text_of(alloc: Global, start: u64, content: &[u8]) -> Result<Text, JsonFault>
+    ensures ok { IfOk result (λ text. (text ≡ content.now) × IsText content.now) }
+    ensures err { IsUtf8 content.now → IfErr result (UnlessMemory (IsTooLong start content.now)) }
+{
+    match Text::new(alloc, content) {
         Ok(text) => Ok(text),
         Err(TextFault::NotUtf8 { .. }) => Err(JsonFault::BadByte { at: start }),
         Err(TextFault::TooLong { .. }) => Err(JsonFault::StringTooLong { at: start }),
@@ -252,20 +291,25 @@ fn text_of(alloc: Global, start: u64, content: &Bytes) -> Result<Text, JsonFault
     }
 }
 
-/// The string behind its opening quote, and the rest.
-pub(crate) fn string_at(alloc: Global, end: usize, bytes: &[u8]) -> Result<(Text, &[u8]), JsonFault>
+/// A string with escapes behind its opening quote, which stands at `start`, and the rest.
+fn escaped_at(
+    alloc: Global,
+    end: usize,
+    start: u64,
+    bytes: &[u8],
+) -> Result<(Text, &[u8]), JsonFault>
     ensures shorter { IfOk result (λ p. length p.1.now < length bytes.now) }
-    ensures ok { IfOk result (λ p. ReadsText bytes.now p.0 p.1.now) }
+    ensures ok { IfOk result (λ p. TextAt bytes.now p.0 p.1.now) }
     ensures utf8 { IsUtf8 bytes.now → IfOk result (λ p. IsUtf8 p.1.now) }
-    ensures fault { IsUtf8 bytes.now → IfErr result (UnlessMemory (StringFault end (end - length bytes.now - 1) 0 bytes.now)) }
+    ensures fault { IsUtf8 bytes.now → IfErr result (UnlessMemory (StringFault end start 0 bytes.now)) }
 {
-    let start = place(end, bytes).saturating_sub(1);
-    let mut content = Bytes::new(alloc);
+    let mut content = Bytes::from_vec(Vec::with_capacity(alloc, ROOM)?);
     let mut left = bytes;
     loop {
-        match piece_at(end, left, &mut content)? {
+        let rest = run_at(start, left, &mut content)?;
+        match piece_at(end, rest, &mut content)? {
             Piece::Closed(after) => {
-                let text = text_of(alloc, start, &content)?;
+                let text = text_of(alloc, start, content.as_slice())?;
                 return Ok((text, after));
             }
             Piece::More(after) => left = after,
@@ -273,5 +317,23 @@ pub(crate) fn string_at(alloc: Global, end: usize, bytes: &[u8]) -> Result<(Text
         if content.len() > TEXT_BYTES {
             return Err(JsonFault::StringTooLong { at: start });
         }
+    }
+}
+
+/// The string behind its opening quote, and the rest.
+pub(crate) fn string_at(alloc: Global, end: usize, bytes: &[u8]) -> Result<(Text, &[u8]), JsonFault>
+    ensures shorter { IfOk result (λ p. length p.1.now < length bytes.now) }
+    ensures ok { IfOk result (λ p. TextAt bytes.now p.0 p.1.now) }
+    ensures utf8 { IsUtf8 bytes.now → IfOk result (λ p. IsUtf8 p.1.now) }
+    ensures fault { IsUtf8 bytes.now → IfErr result (UnlessMemory (StringFault end (end - length bytes.now - 1) 0 bytes.now)) }
+{
+    let start = place(end, bytes).saturating_sub(1);
+    let (run, rest) = bytes.split_at(plain_len(bytes));
+    match behind(rest, b'"') {
+        Some(after) => {
+            let text = text_of(alloc, start, run)?;
+            Ok((text, after))
+        }
+        None => escaped_at(alloc, end, start, bytes),
     }
 }

@@ -3,14 +3,14 @@ use Rattle.sx_model.specs.Faults.{Faults, TextFault}
 use Rattle.sx_json.proofs.OneFault.{faults_one, spells_no_fault}
 use Rattle.sx_tree.specs.Value.{Value, value_of}
 use Rattle.sx_model.specs.Grammar.{Spells}
-use Rattle.sx_json.specs.Outcome.{Reads}
 use Rattle.sx_json.proofs.Results.{if_ok_map, no_other, refused_by, unless_map}
-use Rattle.sx_json.proofs.Texts.{Spells-Follows, Follows-Spells}
+use Rattle.sx_model.proofs.OneValue.{spells_one}
 use Rattle.sx_json.proofs.reader.read.Goals as goal
 
 pub returns-in-Ok-clause-only : goal.returns-in-Ok-clause-only
 returns-in-Ok-clause-only c = λ v s.
-    if_ok_map (Reads c.args.text.now) (λ json. value_of json ≡ v) c.read_front.result c.read_front.ensures.ok (λ x r. r.1 v (Spells-Follows c.args.text.now v s))
+    let text = c.args.text.now in
+    if_ok_map (λ json. Spells text (value_of json)) (λ json. value_of json ≡ v) c.read_front.result c.read_front.ensures.ok (λ x r. spells_one text (value_of x) v r s)
 
 pub returns-in-Ok-clause-refused : goal.returns-in-Ok-clause-refused
 returns-in-Ok-clause-refused c =
@@ -21,7 +21,7 @@ pub returns-in-Ok-clause-no_other : goal.returns-in-Ok-clause-no_other
 returns-in-Ok-clause-no_other c = λ f h.
     let text = c.args.text.now in
     let utf8 : IsUtf8 text = c.in-Ok.ensures.cases.1 in
-    no_other (Reads text) (TextFault (length text) text) c.read_front.result f (λ x r. spells_no_fault text (value_of x) f (Follows-Spells text (value_of x) utf8 r.0) h) (λ g k. faults_one text g f (inl (utf8, k)) h) c.read_front.ensures.ok c.read_front.ensures.fault
+    no_other (λ json. Spells text (value_of json)) (TextFault (length text) text) c.read_front.result f (λ x r. spells_no_fault text (value_of x) f r h) (λ g k. faults_one text g f (inl (utf8, k)) h) c.read_front.ensures.ok c.read_front.ensures.fault
 
 pub returns-in-Err-clause-no_other : goal.returns-in-Err-clause-no_other
 returns-in-Err-clause-no_other c = λ f h.

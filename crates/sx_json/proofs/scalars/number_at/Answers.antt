@@ -3,20 +3,8 @@ use Rattle.std.proofs.lemmas.List.{take-append-drop}
 use Rattle.sx_tree.specs.Number.{IsNumber}
 use Rattle.sx_model.specs.StringFaults.{unexpected}
 use Rattle.sx_tree.specs.declared.json_fault.JsonFault.TheVariants.{NumberTooLong}
-use Rattle.sx_json.proofs.FaultScalars.{longest_of_all, number_long, number_ends, number_keeps}
-use Rattle.sx_json.proofs.ScalarReads.{number_fits, number_again, number_is_whole}
+use Rattle.sx_json.proofs.FaultScalars.{longest_of_all, number_long, number_ends, number_goes, number_is_whole}
 use Rattle.sx_json.proofs.scalars.number_at.Goals as goal
-
-pub returns-in-Ok-clause-ok : goal.returns-in-Ok-clause-ok
-returns-in-Ok-clause-ok c = λ frames room v.
-    let front = c.number_front-front in
-    let literal : c.in-Ok.literal ≡ take front.result.len c.args.bytes.now = c.in-Ok.ensures.same ∙ c.split_at.ensures.front in (
-      λ h.
-          let n = number_fits c.args.bytes.now c.min-most.result front.result.len c.requires.begins c.min-most.ensures front.ensures.longest frames room v h in
-          rw (literal, c.split_at.ensures.back) n.2,
-      λ h.
-          number_again c.args.bytes.now front.result.len frames room v (rw c.split_at.ensures.front at c.in-Ok.ensures.number) (rw c.split_at.ensures.front at c.in-Ok.ensures.short) (rw (literal, c.split_at.ensures.back) at h),
-    )
 
 pub returns-then-front-gt-LITERAL_BYTES-clause-fault : goal.returns-then-front-gt-LITERAL_BYTES-clause-fault
 returns-then-front-gt-LITERAL_BYTES-clause-fault c =
@@ -34,9 +22,9 @@ returns-then-not-front-clause-fault c =
     inr
     (inr (len, c.if-front-gt-LITERAL_BYTES.false, longest_of_all c.args.bytes.now c.min-most.result len c.min-most.ensures front.ensures.longest c.if-front-gt-LITERAL_BYTES.false, none, c.unexpected.ensures ∙ ap (unexpected c.args.end) c.split_at.ensures.back))
 
-pub returns-in-Ok-clause-utf8 : goal.returns-in-Ok-clause-utf8
-returns-in-Ok-clause-utf8 c =
-    rw c.split_at.ensures.back (number_keeps c.args.bytes.now c.number_front-front.result.len (rw c.split_at.ensures.front at c.in-Ok.ensures.number) c.requires.utf8)
+pub returns-in-Ok-clause-goes_on : goal.returns-in-Ok-clause-goes_on
+returns-in-Ok-clause-goes_on c =
+    rw c.split_at.ensures.back (number_goes c.args.bytes.now c.number_front-front.result.len (rw c.split_at.ensures.front at c.in-Ok.ensures.number) c.requires.utf8)
 
 pub returns-in-Ok-clause-whole : goal.returns-in-Ok-clause-whole
 returns-in-Ok-clause-whole c = λ room.

@@ -4,9 +4,8 @@ use Rattle.sx_tree.specs.Names.{AreDistinct}
 use Rattle.sx_tree.specs.Value.{value_of, fields_of}
 use Rattle.sx_model.specs.Canonical.{comma_before, string_text, text}
 use Rattle.sx_model.specs.Limits.{MembersKeepLimits}
-use Rattle.sx_json.proofs.MemberTurns.{names_in-fields_of}
 use Rattle.sx_json.proofs.Writing.{elements_text-more, members_text-more, member_at, regrouped, regrouped_member}
-use Rattle.sx_json.proofs.Growing.{elements_keep-more, members_keep-more}
+use Rattle.sx_json.proofs.Growing.{elements_keep-more, members_keep-more, names_in-fields_of}
 use Rattle.sx_json.proofs.writer.+write.Goals as goal
 
 pub write_elements-loop-place-preserved : goal.write_elements-loop-place-preserved

@@ -2,7 +2,7 @@ use Rattle.std.proofs.Common.{◌≤◌, ◌++◌, List, ℕ, length, IsUtf8}
 use Rattle.sx_model.specs.Strings.{StringAt}
 use Rattle.sx_model.specs.StringFaults.{StringFault}
 use Rattle.sx_tree.specs.declared.json_fault.JsonFault.{JsonFault}
-use Rattle.sx_json.proofs.strings.string_at.Given as goal
+use Rattle.sx_json.proofs.strings.escaped_at.Given as goal
 
 abbrev pub invariant-loop-content : goal.invariant-loop-content
 invariant-loop-content l = record {
