@@ -8,7 +8,7 @@ use std::collections::BTreeMap;
 use std::marker::Model;
 
 /// So many names are looked through one after another. Where there are more, an index is kept.
-const FEW_NAMES: usize = 16;
+const FEW_NAMES: usize = 32;
 
 /// Names in the order in which they came, of which no two are equal.
 #[derive(Drop)]
