@@ -1,21 +1,27 @@
 -- Names of which no two are equal, and the index that finds one.
-use Rattle.std.specs.Prelude.{ℕ, ◌≡◌, List, [], map, String, Option, Some, None, slice_get}
+use Rattle.std.specs.Prelude.{ℕ, ◌≡◌, List, [], map, Option, Some, None, slice_get}
 use Rattle.std.specs.declared.alloc.Global.{Global}
 use Rattle.std.specs.declared.boxed.Box.{Box}
-use Rattle.std.specs.BTreeMap.{BTreeMap, get_by_text}
+use Rattle.std.specs.BTreeMap.{BTreeMap, get}
+use Rattle.std.specs.Cmp.Lexicographic.{slice_cmp}
+use Rattle.std.specs.Ordering.{nat_cmp}
 
 -- no name stands at two places
 abbrev pub AreDistinct : List (List ℕ) → Type 0
 AreDistinct names = (i j : ℕ) (name : List ℕ) → slice_get names i ≡ Some name → slice_get names j ≡ Some name → i ≡ j
 
+-- the place of a name in an index
+abbrev pub place_in : BTreeMap (List ℕ) ℕ → List ℕ → Option ℕ
+place_in places name = get (slice_cmp nat_cmp) places name
+
 -- the index has the place of each name, and nothing else
-abbrev pub AreIndexed : List (List ℕ) → BTreeMap (String Global) ℕ → Type 0
+abbrev pub AreIndexed : List (List ℕ) → BTreeMap (List ℕ) ℕ → Type 0
 AreIndexed names places =
-    ((name : List ℕ) (i : ℕ) → get_by_text places name ≡ Some i → slice_get names i ≡ Some name)
-    × ((name : List ℕ) (i : ℕ) → slice_get names i ≡ Some name → get_by_text places name ≡ Some i)
+    ((name : List ℕ) (i : ℕ) → place_in places name ≡ Some i → slice_get names i ≡ Some name)
+    × ((name : List ℕ) (i : ℕ) → slice_get names i ≡ Some name → place_in places name ≡ Some i)
 
 -- the index of the names, where one is kept
-abbrev pub IsIndex : List (List ℕ) → Option (Box (BTreeMap (String Global) ℕ) Global) → Type 0
+abbrev pub IsIndex : List (List ℕ) → Option (Box (BTreeMap (List ℕ) ℕ) Global) → Type 0
 IsIndex names None = Unit {0}
 IsIndex names (Some places) = AreIndexed names places.value
 

@@ -16,3 +16,4 @@ pub mod query;
 pub mod record;
 pub mod steps;
 pub mod text;
+mod text_order;

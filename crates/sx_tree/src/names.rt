@@ -15,7 +15,7 @@ const FEW_NAMES: usize = 32;
 pub(crate) struct Names {
     texts: Vec<Text>,
     /// The place of each name, where there are many.
-    index: Option<Box<BTreeMap<String, usize>>>,
+    index: Option<Box<BTreeMap<Text, usize>>>,
 }
 
 impl Model for Names {
@@ -52,7 +52,7 @@ impl Names {
         ensures none { IfNone result (Contains self.now name.now → ⊥) }
     {
         match &self.index {
-            Some(places) => places.get(name.as_str()).copied(),
+            Some(places) => places.get(name).copied(),
             None => place_of(self.texts.as_slice(), name.as_bytes()),
         }
     }
@@ -86,7 +86,7 @@ fn place_of(names: &[Text], name: &[u8]) -> Option<usize>
 /// Notes the place of a name that comes behind the others, where there are many. A failure notes nothing.
 fn note(
     alloc: Global,
-    index: &mut Option<Box<BTreeMap<String, usize>>>,
+    index: &mut Option<Box<BTreeMap<Text, usize>>>,
     names: &[Text],
     name: &Text,
 ) -> Result<(), AllocError>
@@ -109,7 +109,7 @@ fn note(
 }
 
 /// The place of each of the names.
-fn index_of(alloc: Global, names: &[Text]) -> Result<BTreeMap<String, usize>, AllocError>
+fn index_of(alloc: Global, names: &[Text]) -> Result<BTreeMap<Text, usize>, AllocError>
     requires { AreDistinct names.now }
     ensures { IfOk result (AreIndexed names.now) }
 {
@@ -123,7 +123,7 @@ fn index_of(alloc: Global, names: &[Text]) -> Result<BTreeMap<String, usize>, Al
 /// Enters the place of a name that comes behind the others. A failure enters nothing.
 fn enter(
     alloc: Global,
-    places: &mut BTreeMap<String, usize>,
+    places: &mut BTreeMap<Text, usize>,
     names: &[Text],
     name: &Text,
 ) -> Result<(), AllocError>
@@ -132,7 +132,7 @@ fn enter(
     ensures ok { OnOk result (AreIndexed (names.now ++ name.now ∷ []) places.new) }
     ensures err { OnErr result (AreIndexed names.now places.new) }
 {
-    let key = String::from_str(alloc, name.as_str())?;
+    let key = name.copy(alloc)?;
     places.insert(key, names.len())?;
     Ok(())
 }

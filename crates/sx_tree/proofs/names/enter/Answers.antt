@@ -1,17 +1,15 @@
-use Rattle.std.proofs.Common.{◌≡◌, ℕ, List, Some, length, rules, string_bytes, subst}
-use Rattle.std.proofs.lemmas.Map.Text.{btree_map_updates_text}
-use Rattle.std.specs.BTreeMap.{get_by_text}
-use Rattle.std.specs.Map.{update}
+use Rattle.std.proofs.Common.{◌≡◌, ℕ, List, Some, cond, length, rules}
+use Rattle.std.specs.Cmp.Lexicographic.{texts_ties}
 use Rattle.std.specs.Str.{bytes_eq}
+use Rattle.sx_tree.specs.Names.{place_in}
 use Rattle.sx_tree.proofs.NameLists.{AreIndexed-push, AreIndexed-same}
 use Rattle.sx_tree.proofs.names.enter.Goals as goal
 
 pub returns-clause-ok : goal.returns-clause-ok
 returns-clause-ok c =
-    let key : string_bytes c.in_ok-key.key ≡ c.args.name.now = search rules in
-    let updates : (q : List ℕ) → get_by_text c.insert.new.self q ≡ update bytes_eq (get_by_text c.args.places.now) c.args.name.now (Some (length c.args.names.now)) q
-    = λ q. subst (λ k. get_by_text c.insert.new.self q ≡ update bytes_eq (get_by_text c.args.places.now) k (Some (length c.args.names.now)) q) key
-    (btree_map_updates_text (string_bytes c.in_ok-key.key) c.args.places.now c.insert.new.self (Some (length c.args.names.now)) c.in_ok-insert.ensures.updates q) in
+    let key : c.in_ok-key.key ≡ c.args.name.now = search rules in
+    let updates : (q : List ℕ) → place_in c.insert.new.self q ≡ cond (bytes_eq c.args.name.now q) (Some (length c.args.names.now)) (place_in c.args.places.now q)
+    = λ q. rw (texts_ties c.args.name.now q, ← key) (c.in_ok-insert.ensures.updates.0 q) in
     AreIndexed-push c.args.names.now c.args.places.now c.insert.new.self c.args.name.now c.requires.indexed c.requires.new_name updates
 
 pub returns-in_err-insert-clause-err : goal.returns-in_err-insert-clause-err
