@@ -69,7 +69,8 @@ impl<T: Drop> NamedList<T> {
         ensures ok { OnOk result (self.new ≡ self.old ++ (name, value) ∷ []) }
         ensures err { OnErr result (self.new ≡ self.old) }
     {
-        self.values.reserve_exact(self.values.len() / 4 + 1)?;
+        // Grows by an eighth, so that a few leave no room unused.
+        self.values.reserve_exact(self.values.len() / 8 + 1)?;
         self.names.push(alloc, name)?;
         self.values.push_reserved(value);
         Ok(())

@@ -63,7 +63,8 @@ impl Names {
         ensures ok { OnOk result (self.new ≡ self.old ++ name ∷ []) }
         ensures err { OnErr result (self.new ≡ self.old) }
     {
-        self.texts.reserve_exact(self.texts.len() / 4 + 1)?;
+        // Grows by an eighth, so that a few leave no room unused.
+        self.texts.reserve_exact(self.texts.len() / 8 + 1)?;
         note(alloc, &mut self.index, self.texts.as_slice(), &name)?;
         self.texts.push_reserved(name);
         Ok(())
