@@ -6,7 +6,8 @@ use Rattle.sx_tree.specs.declared.steps.PathStep.{PathStep}
 use Rattle.sx_tree.specs.declared.steps.PathStep.TheVariants as asked
 use Rattle.sx_model.specs.Canonical.{string_text}
 
--- nothing for the step to the document's child, `[]` for one to an element, `/` and the name as a string for one to a value
+-- nothing for the step to the document's child, `[]` for one to an element, and `/` with the name as a string for one to
+-- the value of a member
 abbrev pub step_text : Step → List ℕ
 step_text Top = []
 step_text Item = 91 ∷ 93 ∷ []

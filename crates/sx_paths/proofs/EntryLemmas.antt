@@ -2,7 +2,7 @@
 use Rattle.std.proofs.Common.{◌≡◌, ℕ, zero, suc, ◌+◌, ◌≤◌, ◌<◌, Bool, true, false, cond, eqb, ◌&&◌, List, [], ◌∷◌, ◌++◌, map, take, drop, length, get_or, append-nil, ◌-◌, Option, Some, None, refl, sym, ap, ◌∙◌, subst, arith, set}
 use Rattle.std.specs.Prelude.{slice_get, IsSomeAnd}
 use Rattle.std.specs.Option.{option_or, option_map}
-use Rattle.std.specs.List.{AllByRecursion, position_from}
+use Rattle.std.specs.List.{position_from}
 use lib.ListN.{length-set}
 use Rattle.std.proofs.lemmas.List.{map_push, length-append}
 use Rattle.std.proofs.lemmas.Option.{slice_get_read}
@@ -15,7 +15,7 @@ use Rattle.sx_paths.specs.declared.entry.Entry.{Entry}
 use Rattle.sx_paths.specs.declared.index.Index.{Index}
 use Rattle.sx_paths.specs.Table.{goes_on, number_in, recount, row_at, row_of}
 use Rattle.sx_paths.specs.Entries.{AreStamped, IsIndexOf, IsTable, table_of, left_at, noted_at, row_before, rows_of, stamps_of, is_number}
-use Rattle.sx_paths.specs.Words.{IsIndex, number_by, given_at}
+use Rattle.sx_paths.specs.Words.{IsIndex, number_by}
 use Rattle.sx_paths.proofs.WordLemmas.{same_step-refl, same_step-same}
 
 -- ---- one entry was changed

@@ -1,4 +1,6 @@
 pub mod Entries
+pub mod Listed
 pub mod Load
+pub mod OfState
 pub mod Table
 pub mod Words

@@ -22,6 +22,11 @@ Explains told rose broken Failed = rose
 Explains told rose broken (Damaged damage) = (told ≡ None) ⊎ broken damage
 Explains told rose broken OutOfMemory = Unit {0}
 
+abbrev pub IsDamaged : Fault → Type 0
+IsDamaged Failed = ⊥
+IsDamaged (Damaged damage) = Unit {0}
+IsDamaged OutOfMemory = ⊥
+
 -- the path has no record, or its parent is not before it
 abbrev pub IsBrokenPath : Option (RecordMap PathRecord) → ℕ → Damage → Type 0
 IsBrokenPath o path damage = IfSome o (λ records. IfSome (fin.get records path) (λ r. path ≤ r.parent)) × (damage ≡ broken_path path)

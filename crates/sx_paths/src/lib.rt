@@ -4,13 +4,13 @@
 mod entries;
 mod entry;
 mod index;
+mod laws;
 mod limit;
 mod load;
 mod table;
-#[cfg(test)]
-mod tests;
 mod words;
 
+pub use laws::{count_in_list, enter_into_list, find_in_list, list_parents_first};
 pub use limit::room;
-pub use load::{BROKEN_PATH, broken_path};
+pub use load::{BROKEN_PATH, broken_path, read_path};
 pub use table::PathTable;

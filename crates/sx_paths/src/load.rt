@@ -1,9 +1,10 @@
 //! The table from records.
-ghost use Rattle.std.specs.Prelude.{◌≡◌, ◌+◌, ◌≤◌, IfErr, IfOk, IfSome, None, Some, length};
+ghost use Rattle.std.specs.Prelude.{◌≡◌, ◌+◌, ◌<◌, ◌≤◌, IfErr, IfOk, IfSome, None, Some, length};
 ghost use Rattle.std.specs.Option.{option_map};
 ghost use Rattle.std.specs.FinMap as map;
 ghost use Rattle.sx_outside.specs.Faults.{Rose};
-ghost use Rattle.sx_paths.specs.Load.{Explains, HasBrokenPath, IsBrokenPath, TellsFrom, broken_path};
+ghost use Rattle.sx_paths.specs.Load.{Explains, HasBrokenPath, IsBrokenPath, IsDamaged, TellsFrom, broken_path};
+ghost use Rattle.sx_paths.specs.OfState.{AreNoPaths, AreRows};
 ghost use Rattle.sx_paths.specs.Table.{row_of};
 
 use crate::table::PathTable;
@@ -22,14 +23,22 @@ pub fn broken_path(path: u32) -> Damage
     number_damage(0, BROKEN_PATH, 0, u64::from(path))
 }
 
-/// The record of the path.
-fn read_path<P: Records<PathRecord>>(
+/// The record of the path, whose parent is before it.
+///
+/// # Errors
+///
+/// `Failed` only where the faults of the object below rose; `Damaged` by rule 26 where the path has no record, or its
+/// parent is not before it, and else only where the records are not told; `OutOfMemory`.
+pub fn read_path<P: Records<PathRecord>>(
     alloc: Global,
     records: &mut P,
     path: u32,
 ) -> Result<PathRecord, Fault>
-    ensures found { IfOk result (λ found. IfSome (P.told records.old) (λ told. option_map row_of (map.get told path) ≡ Some (row_of found))) }
-    ensures fault { IfErr result (Explains (P.told records.old) (Rose (P.faults records.old) (P.faults records.new)) (IsBrokenPath (P.told records.old) path)) }
+    ensures found { IfOk result (λ found. IfSome (P.told records.old)
+        (λ told. option_map row_of (map.get told path) ≡ Some (row_of found))) }
+    ensures before { IfOk result (λ found. found.parent < path) }
+    ensures fault { IfErr result (Explains (P.told records.old) (Rose (P.faults records.old) (P.faults records.new))
+        (IsBrokenPath (P.told records.old) path)) }
     ensures gets { P.gets records.new ≤ P.gets records.old + 1 }
     ensures never_falls { P.faults records.old ≤ P.faults records.new }
     ensures keeps { P.keeps records.old records.new }
@@ -49,8 +58,9 @@ impl PathTable {
     ///
     /// # Errors
     ///
-    /// `Failed` only where the faults of the object below rose; `Damaged` by rule 26 where one of the paths has no record, or
-    /// its parent is not before it, and else only where the records are not told; `OutOfMemory`.
+    /// `Failed` only where the faults of the object below rose; `Damaged` by rule 26 where one of the paths has no
+    /// record, or its parent is not before it, and else only where the records are not told: never over the records of
+    /// a document that has so many paths; `OutOfMemory`.
     pub fn load<P: Records<PathRecord>>(
         alloc: Global,
         records: &mut P,
@@ -59,7 +69,10 @@ impl PathTable {
         ensures paths { IfOk result (λ table. IfSome (P.told records.old) (λ told. TellsFrom told 1 table.paths)) }
         ensures count { IfOk result (λ table. length table.paths ≡ count) }
         ensures no_mark { IfOk result (λ table. table.marked ≡ None) }
-        ensures fault { IfErr result (Explains (P.told records.old) (Rose (P.faults records.old) (P.faults records.new)) (HasBrokenPath (P.told records.old) count)) }
+        ensures of_state { IfOk result (λ table. AreRows (P.told records.old) count table.paths) }
+        ensures sound { IfErr result (λ fault. IsDamaged fault → AreNoPaths (P.told records.old) count) }
+        ensures fault { IfErr result (Explains (P.told records.old) (Rose (P.faults records.old) (P.faults records.new))
+            (HasBrokenPath (P.told records.old) count)) }
         ensures gets { P.gets records.new ≤ P.gets records.old + count }
         ensures never_falls { P.faults records.old ≤ P.faults records.new }
         ensures keeps { P.keeps records.old records.new }

@@ -1,4 +1,4 @@
-use Rattle.std.proofs.Common.{◌≡◌, ◌+◌, ◌++◌, ◌∷◌, [], ◌≤◌, ◌<◌, ℕ, length, take, arith, rules, sym, ap, ◌∙◌}
+use Rattle.std.proofs.Common.{◌≡◌, ◌+◌, ◌++◌, ◌∷◌, [], ◌≤◌, ℕ, length, take, rules, sym, ap, ◌∙◌}
 use Rattle.sx_paths.specs.Entries.{left_at}
 use Rattle.sx_paths.specs.Words.{number_by}
 use Rattle.sx_paths.proofs.EntryLemmas.{cut_once, front-push}

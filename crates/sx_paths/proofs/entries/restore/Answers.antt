@@ -1,10 +1,10 @@
-use Rattle.std.proofs.Common.{◌≡◌, ◌+◌, ◌<◌, ℕ, suc, Some, length, arith, rules, map, sym, ap, get_or, ◌∙◌}
+use Rattle.std.proofs.Common.{◌≡◌, ◌+◌, ◌<◌, ℕ, suc, Some, length, arith, rules, sym, ap, get_or, ◌∙◌}
 use Rattle.std.specs.Prelude.{slice_get}
 use Rattle.std.proofs.lemmas.Option.{slice_get-get_or}
 use Rattle.sx_paths.specs.declared.entry.Entry.{Entry}
 use Rattle.sx_paths.specs.Table.{row_of}
 use Rattle.sx_paths.specs.Entries.{row_before}
-use Rattle.sx_paths.proofs.EntryLemmas.{mixed, mixed-set, mixed-all, map-set, AreStamped-none}
+use Rattle.sx_paths.proofs.EntryLemmas.{mixed, mixed-set, mixed-all, map-set}
 use Rattle.sx_paths.proofs.entries.restore.Goals as goal
 
 pub loop-entry-preserved : goal.loop-entry-preserved

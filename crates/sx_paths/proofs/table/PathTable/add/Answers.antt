@@ -1,6 +1,6 @@
-use Rattle.std.proofs.Common.{◌≡◌, ◌+◌, ◌<◌, ◌++◌, ◌∷◌, [], ℕ, ap, sym, subst, length, rules, arith, ◌∙◌}
+use Rattle.std.proofs.Common.{◌≡◌, ◌+◌, ◌<◌, ◌++◌, ◌∷◌, [], ℕ, ap, sym, subst, length, rules, ◌∙◌}
 use Rattle.sx_paths.specs.Table.{Table}
-use Rattle.sx_paths.specs.Entries.{IsTable, noted_at}
+use Rattle.sx_paths.specs.Entries.{noted_at}
 use Rattle.sx_paths.specs.Words.{number_by}
 use Rattle.sx_paths.proofs.EntryLemmas.{IsTable-push, length-rows}
 use Rattle.sx_paths.proofs.table.PathTable.add.Goals as goal

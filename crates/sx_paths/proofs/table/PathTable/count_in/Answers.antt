@@ -1,4 +1,4 @@
-use Rattle.std.proofs.Common.{◌≡◌, ◌+◌, ◌-◌, ◌<◌, ◌≤◌, ℕ, sym, subst, rules}
+use Rattle.std.proofs.Common.{◌+◌, ◌-◌, ◌<◌, sym, subst, rules}
 use Rattle.std.specs.Prelude.{IsSomeAnd}
 use Rattle.sx_paths.specs.Table.{Table, row_at}
 use Rattle.sx_paths.proofs.EntryLemmas.{IsTable-recount, table-recount, there}

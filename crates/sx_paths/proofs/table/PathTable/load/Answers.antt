@@ -1,4 +1,4 @@
-use Rattle.std.proofs.Common.{◌≡◌, ◌+◌, ◌++◌, ◌∷◌, [], ℕ, Option, Some, IfSome, length, arith, rules, sym, ap, subst, ◌∙◌}
+use Rattle.std.proofs.Common.{◌≡◌, ◌+◌, ◌≤◌, ◌∷◌, [], ℕ, Option, Some, IfSome, length, arith, rules, sym, ap, subst, ◌∙◌}
 use Rattle.std.specs.Option.{option_map}
 use Rattle.std.specs.FinMap as fin
 use Rattle.std.proofs.lemmas.List.{length-append}
@@ -7,6 +7,7 @@ use Rattle.sx_view.specs.Records.{RecordMap}
 use Rattle.sx_paths.specs.Load.{TellsFrom}
 use Rattle.sx_paths.specs.Table.{Table, row_of}
 use Rattle.sx_paths.proofs.LoadLemmas.{loaded}
+use Rattle.sx_paths.proofs.StateLemmas.{are-rows, sound-after}
 use Rattle.sx_paths.proofs.table.PathTable.load.Goals as goal
 
 pub loop-before-preserved : goal.loop-before-preserved
@@ -27,3 +28,14 @@ loop-before-preserved g c =
       keeps = g.met.P.Records.keeps_then _ _ _ inv.keeps c.read_path.ensures.keeps;
       same = c.read_path.ensures.same ∙ inv.same;
     }
+
+pub returns-in_err-path-clause-sound : goal.returns-in_err-path-clause-sound
+returns-in_err-path-clause-sound g c =
+    let first : 1 ≤ c.loop-before.before + 1 = omega arith in
+    let within : c.loop-before.before + 1 ≤ c.args.count = omega arith in
+    sound-after _ _ _ _ _ _ _ c.from_residual.ensures.1 c.loop-before.invariant.same first within c.in_err-path.ensures.fault
+
+pub returns-clause-of_state : goal.returns-clause-of_state
+returns-clause-of_state g c =
+    let all : c.loop-before.before ≡ c.args.count = omega arith in
+    are-rows _ _ _ (c.loop-before.invariant.count ∙ all) c.loop-before.invariant.paths
