@@ -8,6 +8,8 @@ mod documents;
 #[cfg(test)]
 mod moves;
 #[cfg(test)]
+mod paths;
+#[cfg(test)]
 mod selections;
 #[cfg(test)]
 mod texts;
