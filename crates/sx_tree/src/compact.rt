@@ -16,9 +16,15 @@ enum Kept {
 }
 
 /// Bytes that are written once.
-#[derive(Drop)]
 pub(crate) struct Compact {
     kept: Kept,
+}
+
+// One call wherever bytes are let go, for the short and the long alike.
+impl Drop for Compact {
+    fn drop(self) {
+        let Compact { kept: _ } = self;
+    }
 }
 
 impl Model for Compact {

@@ -20,10 +20,16 @@ pub enum MemberFault {
 }
 
 /// Values in the order in which they came, each under a name that no other has.
-#[derive(Drop)]
 pub struct MemberList<T> {
     /// None where there are no members, which then take no memory of their own.
     list: Option<Box<NamedList<T>>>,
+}
+
+// One call wherever members are let go, whether there are any or none.
+impl<T: Drop> Drop for MemberList<T> {
+    fn drop(self) {
+        let MemberList { list: _ } = self;
+    }
 }
 
 impl<T> Model for MemberList<T> {
