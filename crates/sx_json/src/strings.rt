@@ -271,10 +271,10 @@ fn run_at<'a>(start: u64, bytes: &'a [u8], content: &mut Bytes) -> Result<&'a [u
     ensures fault { (end : ℕ) → IfErr result (UnlessMemory (StringFault end start (length content.old) bytes.now)) }
 {
     let (run, left) = bytes.split_at(plain_len(bytes));
-    content.extend_from_slice(run)?;
-    if content.len() > TEXT_BYTES {
+    if run.len() > TEXT_BYTES - content.len() {
         return Err(JsonFault::StringTooLong { at: start });
     }
+    content.extend_from_slice(run)?;
     Ok(left)
 }
 
