@@ -1,6 +1,6 @@
 -- What each answer of an edit says of a state.
-use Rattle.std.proofs.Common.{◌≡◌, ℕ, Bool, true, false, [], ◌∷◌, Option, None, refl, sym, ap, subst, inr}
-use Rattle.std.specs.Prelude.{Result, Ok, Err, IfErr, IsErrAnd, OnOk}
+use Rattle.std.proofs.Common.{◌≡◌, ℕ, ◌-◌, ◌<◌, Bool, List, length, Option, None, sym, ap, subst, ◌∙◌, arith, inr}
+use Rattle.std.specs.Prelude.{◌^◌, min, Result, Ok, Err, IfErr, IsErrAnd, OnOk}
 use Rattle.std.specs.Option.{ForSome}
 use Rattle.std.specs.FinMap as fin
 use Rattle.sx_outside.specs.Faults.{Rose}
@@ -11,7 +11,7 @@ use Rattle.sx_tree.specs.declared.record.NodeRecord.{NodeRecord}
 use Rattle.sx_view.specs.declared.fault.Fault.{Fault}
 use Rattle.sx_view.specs.declared.fault.Fault.TheVariants as reading
 use Rattle.sx_view.specs.Records.{RecordMap}
-use Rattle.sx_model.specs.Edit.{Edit, if_there, unless, when}
+use Rattle.sx_model.specs.Edit.{Edit, apply, if_there, path_limit}
 use Rattle.sx_model.specs.State.{State}
 use Rattle.sx_model.specs.Tree.{Spot, spot}
 use Rattle.sx_edit.specs.declared.fault.EditFault.{EditFault}
@@ -19,7 +19,12 @@ use Rattle.sx_edit.specs.declared.fault.EditFault.TheVariants.{Refused, Failed, 
 use Rattle.sx_edit.specs.Damage.{Explains, IsBreachFault, IsDamaged}
 use Rattle.sx_edit.specs.EditFault.{edit_fault, ExplainsEdit}
 use Rattle.sx_edit.specs.Steps.{GoesOn}
-use Rattle.sx_edit.specs.Answers.{AreOf, Answers, AnswersEach}
+use Rattle.sx_model.specs.Paths.{with_paths}
+use Rattle.sx_model.specs.Records.{PathRow}
+use Rattle.sx_tree.specs.declared.record.Step.{Step}
+use Rattle.sx_edit.specs.Answers.{AreOf, Answers, AnswersEach, IsTableOf}
+use Rattle.sx_edit.specs.Pathways.{Kept, Stops}
+use Rattle.sx_edit.proofs.Pathing.{length-table}
 use Rattle.sx_edit.proofs.Going.{explains_later}
 use Rattle.sx_edit.proofs.Looking.{Looked, nowhere, somewhere, look}
 
@@ -31,23 +36,49 @@ pub untold-no_state : (next : ℕ) (o : Option (RecordMap NodeRecord)) → o ≡
 unfolding IsNoState
 untold-no_state next o is state are = rw is at are.holds
 
-fault_answers : (edit : Edit) (next : ℕ) (before after : Option (RecordMap NodeRecord)) (fault : Fault) → (IsDamaged fault → IsNoState next before) → AnswersEach edit next before after (Err (edit_fault fault))
-unfolding AnswersEach IsNoState
-fault_answers edit next before after reading.Failed damaged state are paths = tt
-fault_answers edit next before after (reading.Damaged d) damaged state are paths = damaged tt state are
-fault_answers edit next before after reading.OutOfMemory damaged state are paths = tt
+-- no state has these records with this table
+unfoldable pub IsNoKept : ℕ → Kept → Type 0
+IsNoKept next before = (state : State) → AreOf state next before.told → IsTableOf state before.table → ⊥
+
+fault_answers : (edit : Edit) (next : ℕ) (before after : Kept) (fault : Fault) → (IsDamaged fault → IsNoKept next before) → AnswersEach edit next before after (Err (edit_fault fault))
+unfolding AnswersEach IsNoKept
+fault_answers edit next before after reading.Failed damaged state are table = tt
+fault_answers edit next before after (reading.Damaged d) damaged state are table = damaged tt state are table
+fault_answers edit next before after reading.OutOfMemory damaged state are table = tt
 
 -- a fault that goes on
-pub err-answers : (edit : Edit) (next : ℕ) (before after : Option (RecordMap NodeRecord)) (r : Result Edited EditFault) (fault : Fault) → IsErrAnd r (λ e. e ≡ edit_fault fault)
-    → (IsDamaged fault → IsNoState next before) → AnswersEach edit next before after r
-err-answers edit next before after (Ok x) fault is damaged = absurd is
-err-answers edit next before after (Err e) fault is damaged = subst (λ x. AnswersEach edit next before after (Err x)) (sym is) (fault_answers edit next before after fault damaged)
+pub err-answers_kept : (edit : Edit) (next : ℕ) (before after : Kept) (r : Result Edited EditFault) (fault : Fault) → IsErrAnd r (λ e. e ≡ edit_fault fault)
+    → (IsDamaged fault → IsNoKept next before) → AnswersEach edit next before after r
+err-answers_kept edit next before after (Ok x) fault is damaged = absurd is
+err-answers_kept edit next before after (Err e) fault is damaged = subst (λ x. AnswersEach edit next before after (Err x)) (sym is) (fault_answers edit next before after fault damaged)
+
+pub err-answers : (edit : Edit) (next : ℕ) (before after : Kept) (r : Result Edited EditFault) (fault : Fault) → IsErrAnd r (λ e. e ≡ edit_fault fault)
+    → (IsDamaged fault → IsNoState next before.told) → AnswersEach edit next before after r
+unfolding IsNoState IsNoKept
+err-answers edit next before after r fault is damaged = err-answers_kept edit next before after r fault is (λ d state are table. damaged d state are)
+
+-- a fault of an edit that goes on, and answers
+pub again-answers : (edit : Edit) (next : ℕ) (before after : Kept) (r : Result Edited EditFault) (e : EditFault) → IsErrAnd r (λ x. x ≡ e) → AnswersEach edit next before after (Err e) → AnswersEach edit next before after r
+again-answers edit next before after (Ok x) e is answers = absurd is
+again-answers edit next before after (Err x) e is answers = subst (λ y. AnswersEach edit next before after (Err y)) (sym is) answers
 
 -- want of memory
-pub memory-answers : (edit : Edit) (next : ℕ) (before after : Option (RecordMap NodeRecord)) (r : Result Edited EditFault) → IsErrAnd r (λ e. e ≡ OutOfMemory) → AnswersEach edit next before after r
+pub memory-answers : (edit : Edit) (next : ℕ) (before after : Kept) (r : Result Edited EditFault) → IsErrAnd r (λ e. e ≡ OutOfMemory) → AnswersEach edit next before after r
 unfolding AnswersEach
 memory-answers edit next before after (Ok x) is = absurd is
-memory-answers edit next before after (Err e) is = λ state are paths. subst (λ x. Answers edit state after (Err x)) (sym is) tt
+memory-answers edit next before after (Err e) is = λ state are table. subst (λ x. Answers edit state after (Err x)) (sym is) tt
+
+-- where paths come to the state's, an edit stops as the state's does, or answers nothing of it
+pub stops-answers : (edit : Edit) (state : State) (after : Kept) (had : ℕ) (paths : List (List Step)) (e : EditFault) → had ≡ length state.paths
+    → (path_limit < length (with_paths state.paths paths) → apply edit state ≡ Err (PathsSpent (length state.paths))) → Stops had state.paths paths e → Answers edit state after (Err e)
+stops-answers edit state after had paths (Refused refusal) had_is spent stops = spent stops.1 ∙ ap (λ x. Err x) (ap PathsSpent (sym had_is) ∙ sym stops.0)
+stops-answers edit state after had paths Failed had_is spent stops = tt
+stops-answers edit state after had paths (Damaged damage) had_is spent stops = absurd stops
+stops-answers edit state after had paths OutOfMemory had_is spent stops = tt
+
+-- the paths before the edit
+pub had-paths : (had : ℕ) (table : List PathRow) (state : State) → had ≡ min (length table) (2 ^ 32 - 1) → IsTableOf state table → had ≡ length state.paths
+had-paths had table state is of_state = omega (arith, is, of_state.lists.few, length-table table state.paths _ of_state.lists)
 
 pub breach-explains_edit : {T : Type 0} (next : ℕ) (told : Option T) (rose : Type 0) (r : Result Edited EditFault) (fault : Fault) → IsErrAnd r (λ e. e ≡ edit_fault fault)
     → IsBreachFault next fault → IfErr r (ExplainsEdit next told rose)
@@ -82,15 +113,6 @@ module _ {V T : Type 0} (told : V → Option T) (faults : V → ℕ) (has_mark :
   again-explains_edit next a b c (Ok x) e is first holds = absurd is
   again-explains_edit next a b c (Err x) e is first holds = subst (ExplainsEdit next (told a) (Rose (faults a) (faults c))) (sym is) (later_explains next a b c e first holds)
 
-  pub memory-explains_edit : (next : ℕ) (a c : V) (r : Result Edited EditFault) → IsErrAnd r (λ e. e ≡ OutOfMemory) → IfErr r (ExplainsEdit next (told a) (Rose (faults a) (faults c)))
-  memory-explains_edit next a c (Ok x) is = absurd is
-  memory-explains_edit next a c (Err e) is = subst (ExplainsEdit next (told a) (Rose (faults a) (faults c))) (sym is) tt
-
--- a state whose edit is not refused for want of path numbers has room for them
-pub paths-room : (b : Bool) (n : ℕ) (new : State) → ((paths : ℕ) → unless (when b (PathsSpent n) ∷ []) new ≡ Err (PathsSpent paths) → ⊥) → unless (when b (PathsSpent n) ∷ []) new ≡ Ok new
-paths-room true n new none = absurd (none n refl)
-paths-room false n new none = refl
-
 -- where no record is read, there is no node
 pub no-node : (k : ℕ) (make : Spot → Result State EditRefusal) (state : State) (next : ℕ) (o : Option (RecordMap NodeRecord)) (there : Option NodeRecord)
     → ForSome o (λ m. there ≡ fin.get m k) → there ≡ None → AreOf state next o → if_there k make (spot k state.trees) ≡ Err (NoNode k)
@@ -100,19 +122,24 @@ no-node k make state next o there is none are = go (look k state next o there ar
     go (nowhere e no_spot) = ap (if_there k make) no_spot
     go (somewhere r e seen) = absurd cc
 
--- what was done is kept, and what was not is undone
-pub settled-answers : (edit : Edit) (next : ℕ) (before begun worked after : Option (RecordMap NodeRecord)) (result outcome : Result Edited EditFault)
-    → begun ≡ before → result ≡ outcome → OnOk result (after ≡ worked) → AnswersEach edit next begun worked outcome → AnswersEach edit next before after result
+err_after : (edit : Edit) (state : State) (worked after : Kept) (fault : EditFault) → Answers edit state worked (Err fault) → Answers edit state after (Err fault)
+err_after edit state worked after (Refused refusal) is = is
+err_after edit state worked after Failed is = is
+err_after edit state worked after (Damaged damage) is = is
+err_after edit state worked after OutOfMemory is = is
+
+undone : (edit : Edit) (next : ℕ) (before worked after : Kept) (fault : EditFault) → AnswersEach edit next before worked (Err fault) → AnswersEach edit next before after (Err fault)
 unfolding AnswersEach
-settled-answers edit next before begun worked after (Ok edited) outcome begins same kept answers =
-    let done : AnswersEach edit next begun worked (Ok edited) = subst (λ r. AnswersEach edit next begun worked r) (sym same) answers in
-    let here : AnswersEach edit next begun after (Ok edited) = subst (λ o. AnswersEach edit next begun o (Ok edited)) (sym kept) done in
-    subst (λ o. AnswersEach edit next o after (Ok edited)) begins here
-settled-answers edit next before begun worked after (Err fault) outcome begins same kept answers = λ state are paths.
-    err_after edit state worked after fault (subst (λ r. Answers edit state worked r) (sym same) (answers state (subst (AreOf state next) (sym begins) are) paths))
-  where
-    err_after : (edit : Edit) (state : State) (worked after : Option (RecordMap NodeRecord)) (fault : EditFault) → Answers edit state worked (Err fault) → Answers edit state after (Err fault)
-    err_after edit state worked after (Refused refusal) is = is
-    err_after edit state worked after Failed is = is
-    err_after edit state worked after (Damaged damage) is = is
-    err_after edit state worked after OutOfMemory is = is
+undone edit next before worked after fault answers = λ state are table. err_after edit state worked after fault (answers state are table)
+
+-- what was done is kept, and what was not is undone
+pub settled-answers : (edit : Edit) (next : ℕ) (before begun worked after : Kept) (result outcome : Result Edited EditFault)
+    → begun.told ≡ before.told → begun.table ≡ before.table → result ≡ outcome → OnOk result (after.told ≡ worked.told) → OnOk result (after.table ≡ worked.table)
+    → AnswersEach edit next begun worked outcome → AnswersEach edit next before after result
+settled-answers edit next before begun worked after (Ok edited) outcome told table same kept_told kept_table answers =
+    let first : AnswersEach edit next before worked outcome = subst (λ b. AnswersEach edit next b worked outcome) (λ i. record { told = told i; table = table i }) answers in
+    let done : AnswersEach edit next before after outcome = subst (λ a. AnswersEach edit next before a outcome) (λ i. record { told = sym kept_told i; table = sym kept_table i }) first in
+    subst (λ r. AnswersEach edit next before after r) (sym same) done
+settled-answers edit next before begun worked after (Err fault) outcome told table same kept_told kept_table answers =
+    let first : AnswersEach edit next before worked outcome = subst (λ b. AnswersEach edit next b worked outcome) (λ i. record { told = told i; table = table i }) answers in
+    undone edit next before worked after fault (subst (λ r. AnswersEach edit next before worked r) (sym same) first)

@@ -1,5 +1,5 @@
 -- Trees taken away, one node after the other.
-use Rattle.std.proofs.Common.{◌≡◌, ℕ, ◌+◌, ◌-◌, List, [], ◌∷◌, ◌++◌, Option, Some, None, refl, sym, ap, subst, ◌∙◌, arith, append_assoc, append-nil}
+use Rattle.std.proofs.Common.{◌≡◌, ℕ, ◌+◌, ◌-◌, ◌≤◌, cond, List, [], ◌∷◌, ◌++◌, Option, Some, None, refl, sym, ap, subst, ◌∙◌, arith, append_assoc, append-nil}
 use Rattle.std.specs.Prelude.{option_map, map, IfSome}
 use Rattle.std.specs.Option.{option_or, ForSome}
 use Rattle.std.specs.FinMap as fin
@@ -8,15 +8,17 @@ use Rattle.sx_tree.specs.declared.record.Step.{Step}
 use Rattle.sx_tree.specs.declared.record.NodeRecord.{NodeRecord}
 use Rattle.sx_view.specs.Records.{RecordMap}
 use Rattle.sx_model.specs.Tree.{Forest, no_trees, tree_then, size}
-use Rattle.sx_model.specs.Records.{Around, NodeRow, around_children, first_of, row, rows}
+use Rattle.sx_model.specs.Records.{Around, NodeRow, PathRow, around_children, first_of, row, rows}
 use Rattle.sx_model.proofs.Holes.{or_none}
-use Rattle.sx_edit.specs.Told.{Shows, Piece, BeginWith, sizes, piece_rows, IsCleared}
+use Rattle.sx_edit.specs.Pathways.{HasAll, IsNodeOut, Kept, Lists, ListsSome, kept, more_on, own_of, own_path, paths_under}
+use Rattle.sx_edit.specs.Told.{Shows, ShowsPieces, Piece, BeginWith, sizes, piece_paths, piece_rows, IsCleared, IsDiscounted}
 use Rattle.std.specs.Option.{option_to_list}
 use Rattle.std.proofs.lemmas.List.{reverse-append}
 use Rattle.sx_edit.specs.declared.clear.Link.{Link}
 use Rattle.sx_edit.specs.Clear.{first_tops, tops_of, with_top}
-use Rattle.sx_edit.specs.Mend.{IsTakenOut}
+use Rattle.sx_edit.specs.Mend.{IsLeftOut, IsTakenOut, ShowsBelow}
 use Rattle.sx_edit.proofs.Climbing.{some_is}
+use Rattle.sx_edit.proofs.Pathing.{all-back, all-front, lists-as, more-append, more-none, more-swap, path-by}
 use Rattle.sx_edit.proofs.Showing.{shows-get, shows-drop}
 
 abbrev with_piece : Around → Forest → List Piece → List Piece
@@ -33,13 +35,13 @@ rows-with_piece : (local : Kind → List ℕ → ℕ) (number : List Step → �
 rows-with_piece local number around no_trees pieces = refl
 rows-with_piece local number around (tree_then n below rest) pieces = refl
 
+paths-with_piece : (around : Around) (trees : Forest) (pieces : List Piece) → piece_paths (with_piece around trees pieces) ≡ paths_under around trees ++ piece_paths pieces
+paths-with_piece around no_trees pieces = refl
+paths-with_piece around (tree_then n below rest) pieces = refl
+
 sizes-with_piece : (around : Around) (trees : Forest) (pieces : List Piece) → sizes (with_piece around trees pieces) ≡ size trees + sizes pieces
 sizes-with_piece around no_trees pieces = omega arith
 sizes-with_piece around (tree_then n below rest) pieces = refl
-
-pub cleared-untold : (tops : List ℕ) (limit : ℕ) → IsCleared tops limit None None
-unfolding IsCleared
-cleared-untold tops limit local number pieces xs ys begin few shows = absurd shows.holds
 
 pub cleared-none : (limit : ℕ) (o : Option (RecordMap NodeRecord)) → IsCleared [] limit o o
 unfolding IsCleared
@@ -64,12 +66,22 @@ cleared-absent k limit ks o none local number ((around, tree_then n below rest) 
     let both = shows-get o None xs _ n.number _ (subst (λ l. Shows o (xs ++ l)) (refl {a = piece_rows local number ((around, tree_then n below rest) ∷ pieces) ++ ys}) shows) there in
     absurd cc
 
-pub cleared-more : (k limit fewer : ℕ) (ks : List ℕ) (r : NodeRecord) (o after : Option (RecordMap NodeRecord)) → ForSome o (λ m. fin.get m k ≡ Some r) → limit - 1 ≡ fewer
-    → IsCleared (with_top r.first (with_top r.right ks)) fewer (option_map (λ m. fin.remove m k) o) after → IsCleared (k ∷ ks) limit o after
-unfolding IsCleared
-cleared-more k limit fewer ks r o after found one_less more local number [] xs ys begin few shows = absurd begin
-cleared-more k limit fewer ks r o after found one_less more local number ((around, no_trees) ∷ pieces) xs ys begin few shows = absurd (let e : None ≡ Some k = begin.0 in cc)
-cleared-more k limit fewer ks r o after found one_less more local number ((around, tree_then n below rest) ∷ pieces) xs ys begin few shows =
+-- The first node of the pieces went: what is left, and what its record tells.
+record IsPopped (local : Kind → List ℕ → ℕ) (number : List Step → ℕ) (pieces : List Piece) (fewer : ℕ) (ks : List ℕ) (r : NodeRecord) (gone : Option (RecordMap NodeRecord)) (xs ys : List (ℕ × NodeRow)) : Type 0 where
+  steps : List Step
+  left : List Piece
+  begin : BeginWith left (with_top r.first (with_top r.right ks))
+  few : sizes left ≤ fewer
+  shows : Shows gone (xs ++ (piece_rows local number left ++ ys))
+  path : r.path ≡ number steps
+  paths_are : piece_paths pieces ≡ own_of r.kind steps ++ piece_paths left
+
+popped : (k limit fewer : ℕ) (ks : List ℕ) (r : NodeRecord) (o : Option (RecordMap NodeRecord)) → ForSome o (λ m. fin.get m k ≡ Some r) → limit - 1 ≡ fewer
+    → (local : Kind → List ℕ → ℕ) (number : List Step → ℕ) (pieces : List Piece) (xs ys : List (ℕ × NodeRow)) → BeginWith pieces (k ∷ ks) → sizes pieces ≤ limit
+    → Shows o (xs ++ (piece_rows local number pieces ++ ys)) → IsPopped local number pieces fewer ks r (option_map (λ m. fin.remove m k) o) xs ys
+popped k limit fewer ks r o found one_less local number [] xs ys begin few shows = absurd begin
+popped k limit fewer ks r o found one_less local number ((around, no_trees) ∷ pieces) xs ys begin few shows = absurd (let e : None ≡ Some k = begin.0 in cc)
+popped k limit fewer ks r o found one_less local number ((around, tree_then n below rest) ∷ pieces) xs ys begin few shows =
     let e : Some n.number ≡ Some k = begin.0 in
     let same : k ≡ n.number = cc in
     let there : ForSome o (λ m. Some r ≡ fin.get m n.number) = rw same at (λ (m : RecordMap NodeRecord) (e : o ≡ Some m). sym (found m e)) in
@@ -84,9 +96,13 @@ cleared-more k limit fewer ks r o after found one_less more local number ((aroun
     let known = some_is _ _ (shows-get o (Some r) xs _ n.number here shows_here there) in
     let right : first_of rest ≡ r.right = sym (ap (λ (w : NodeRow). w.right) known ∙ ap (option_or (first_of rest)) begin.1 ∙ or_none _) in
     let first : first_of below ≡ r.first = sym (ap (λ (w : NodeRow). w.first) known) in
+    let kind : n.kind ≡ r.kind = sym (ap (λ (w : NodeRow). w.kind) known) in
     let left : List Piece = with_piece inner below (with_piece beyond rest pieces) in
     let rows_left : piece_rows local number left ≡ rows_below ++ (rows_rest ++ others) =
     rows-with_piece local number inner below (with_piece beyond rest pieces) ∙ ap (λ l. rows_below ++ l) (rows-with_piece local number beyond rest pieces) in
+    let paths_left : piece_paths left ≡ paths_under inner below ++ (paths_under beyond rest ++ piece_paths pieces) =
+    paths-with_piece inner below (with_piece beyond rest pieces) ∙ ap (λ l. paths_under inner below ++ l) (paths-with_piece beyond rest pieces) in
+    let paths_own : piece_paths ((around, tree_then n below rest) ∷ pieces) ≡ own_of n.kind (own_path around n) ++ (paths_under inner below ++ (paths_under beyond rest ++ piece_paths pieces)) = simp append_assoc in
     let begin_left : BeginWith left (with_top r.first (with_top r.right ks)) =
     subst (λ a. BeginWith left (with_top a (with_top r.right ks))) first
     (begin-with_piece inner below (with_piece beyond rest pieces) (with_top r.right ks) refl
@@ -95,9 +111,80 @@ cleared-more k limit fewer ks r o after found one_less more local number ((aroun
     sizes-with_piece inner below (with_piece beyond rest pieces) ∙ ap (λ z. size below + z) (sizes-with_piece beyond rest pieces) in
     let dropped = shows-drop o xs ((rows_below ++ (rows_rest ++ others)) ++ ys) n.number here shows_here in
     let gone : option_map (λ m. fin.remove m n.number) o ≡ option_map (λ m. fin.remove m k) o = ap (λ q. option_map (λ m. fin.remove m q) o) (sym same) in
-    more local number left xs ys begin_left (omega arith)
-    (subst (λ q. Shows q (xs ++ (piece_rows local number left ++ ys))) gone
-    (subst (λ l. Shows (option_map (λ m. fin.remove m n.number) o) (xs ++ (l ++ ys))) (sym rows_left) dropped))
+    record {
+      steps = own_path around n;
+      left = left;
+      begin = begin_left;
+      few = omega arith;
+      shows = subst (λ q. Shows q (xs ++ (piece_rows local number left ++ ys))) gone
+          (subst (λ l. Shows (option_map (λ m. fin.remove m n.number) o) (xs ++ (l ++ ys))) (sym rows_left) dropped);
+      path = ap (λ (w : NodeRow). w.path) known;
+      paths_are = paths_own ∙ (λ i. own_of (kind i) (own_path around n) ++ sym paths_left i);
+    }
+
+pub cleared-more : (k limit fewer : ℕ) (ks : List ℕ) (r : NodeRecord) (o after : Option (RecordMap NodeRecord)) → ForSome o (λ m. fin.get m k ≡ Some r) → limit - 1 ≡ fewer
+    → IsCleared (with_top r.first (with_top r.right ks)) fewer (option_map (λ m. fin.remove m k) o) after → IsCleared (k ∷ ks) limit o after
+unfolding IsCleared
+cleared-more k limit fewer ks r o after found one_less more local number pieces xs ys begin few shows =
+    let next = popped k limit fewer ks r o found one_less local number pieces xs ys begin few shows in
+    more local number next.left xs ys next.begin next.few next.shows
+
+-- ---- counts
+
+-- where there were no such trees, there is nothing to count
+pub discounted-cannot : (tops : List ℕ) (limit : ℕ) (before : Kept) → IsCleared tops limit before.told None → IsDiscounted tops limit before None
+unfolding IsCleared IsDiscounted
+discounted-cannot tops limit before cleared listed count pieces shown lists =
+    absurd ((cleared shown.local shown.number pieces shown.front shown.back shown.begin shown.few shown.shows).holds)
+
+pub discounted-none : (limit : ℕ) (before : Kept) → IsDiscounted [] limit before (Some before.table)
+unfolding IsDiscounted
+discounted-none limit before listed count [] shown lists = lists-as before.table listed _ count (more-none count) lists
+discounted-none limit before listed count (piece ∷ pieces) shown lists = absurd shown.begin
+
+-- the first node of the pieces is no longer counted
+record IsUncounted (goals : List ℕ) (fewer : ℕ) (gone : Option (RecordMap NodeRecord)) (listed : List (List Step)) (count : List Step → ℕ) (mid : Option (List PathRow)) : Type 0 where
+  left : List Piece
+  shown : ShowsPieces gone goals fewer listed left
+  lists : ListsSome mid listed (more_on (piece_paths left) count)
+
+module _ (k limit fewer : ℕ) (ks : List ℕ) (r : NodeRecord) (o : Option (RecordMap NodeRecord)) (table : List PathRow) (found : ForSome o (λ m. fin.get m k ≡ Some r)) (one_less : limit - 1 ≡ fewer) where
+  uncounted : (mid : Option (List PathRow)) → IsNodeOut r.kind r.path table mid → (listed : List (List Step)) (count : List Step → ℕ) (pieces : List Piece)
+      → ShowsPieces o (k ∷ ks) limit listed pieces → Lists table listed (more_on (piece_paths pieces) count)
+      → IsUncounted (with_top r.first (with_top r.right ks)) fewer (option_map (λ m. fin.remove m k) o) listed count mid
+  unfolding IsNodeOut
+  uncounted mid out listed count pieces shown lists =
+      let next = popped k limit fewer ks r o found one_less shown.local shown.number pieces shown.front shown.back shown.begin shown.few shown.shows in
+      let own : List (List Step) = own_of r.kind next.steps in
+      let all : HasAll listed (own ++ piece_paths next.left) = subst (HasAll listed) next.paths_are shown.listed_are in
+      let lists_own = lists-as table listed _ _ (ap (λ ps. more_on ps count) next.paths_are ∙ more-append own (piece_paths next.left) count ∙ more-swap (piece_paths next.left) own count) lists in
+      record {
+        left = next.left;
+        shown = record {
+          local = shown.local;
+          number = shown.number;
+          front = shown.front;
+          back = shown.back;
+          begin = next.begin;
+          few = next.few;
+          shows = next.shows;
+          numbers_are = shown.numbers_are;
+          listed_are = all-back listed own (piece_paths next.left) all;
+        };
+        lists = out listed (more_on (piece_paths next.left) count) next.steps
+            (λ value. path-by shown.number listed next.steps r.path shown.numbers_are (subst (HasAll listed) (ap (λ b. cond b (next.steps ∷ []) []) value) (all-front listed own (piece_paths next.left) all)).0 next.path) lists_own;
+      }
+
+  pub discounted-stopped : IsNodeOut r.kind r.path table None → IsDiscounted (k ∷ ks) limit (kept o table) None
+  unfolding IsDiscounted
+  discounted-stopped out listed count pieces shown lists = (uncounted None out listed count pieces shown lists).lists
+
+  pub discounted-more : (mid : List PathRow) (last : Option (List PathRow)) → IsNodeOut r.kind r.path table (Some mid)
+      → IsDiscounted (with_top r.first (with_top r.right ks)) fewer (kept (option_map (λ m. fin.remove m k) o) mid) last → IsDiscounted (k ∷ ks) limit (kept o table) last
+  unfolding IsDiscounted
+  discounted-more mid last out more listed count pieces shown lists =
+      let next = uncounted (Some mid) out listed count pieces shown lists in
+      more listed count next.left next.shown next.lists
 
 pub tops-push : (links : List Link) (link : Link) → tops_of (links ++ link ∷ []) ≡ link.to ∷ tops_of links
 tops-push links link = ap (map (λ (l : Link). l.to)) (reverse-append links (link ∷ []))
@@ -114,6 +201,41 @@ cleared-step all left k limit fewer ks r o now after is there one_less left_is g
 pub cleared-stopped : (all : List ℕ) (k limit : ℕ) (ks : List ℕ) (o : Option (RecordMap NodeRecord)) → all ≡ k ∷ ks → limit ≡ 0 → IsCleared all limit o None
 cleared-stopped all k limit ks o is none = rw (is, none) (cleared-endless k ks o)
 
+only-below : (around : Around) (below : Forest) → piece_paths (with_piece around below []) ≡ paths_under around below
+only-below around below = paths-with_piece around below [] ∙ append-nil (paths_under around below)
+
+-- the trees below a node, as one piece
+below-shown : (k : ℕ) (r : NodeRecord) (limit : ℕ) (o : Option (RecordMap NodeRecord)) (listed : List (List Step)) (around : Around) (below : Forest)
+    → ShowsBelow o k r.first limit listed (around, below) → ShowsPieces o (first_tops r.first) limit listed (with_piece around below [])
+below-shown k r limit o listed around below shown =
+    let pieces : List Piece = with_piece around below [] in
+    let rows_are : piece_rows shown.local shown.number pieces ≡ rows shown.local shown.number around below =
+    rows-with_piece shown.local shown.number around below [] ∙ append-nil (rows shown.local shown.number around below) in
+    let pushed : shown.front ++ (k, shown.own) ∷ (rows shown.local shown.number around below ++ shown.back) ≡ (shown.front ++ (k, shown.own) ∷ []) ++ (piece_rows shown.local shown.number pieces ++ shown.back) =
+    (let e : shown.front ++ (k, shown.own) ∷ (rows shown.local shown.number around below ++ shown.back) ≡ (shown.front ++ (k, shown.own) ∷ []) ++ (rows shown.local shown.number around below ++ shown.back) = simp append_assoc in e)
+    ∙ ap (λ l. (shown.front ++ (k, shown.own) ∷ []) ++ (l ++ shown.back)) (sym rows_are) in
+    let many : sizes pieces ≡ size below + 0 = sizes-with_piece around below [] in
+    record {
+      local = shown.local;
+      number = shown.number;
+      front = shown.front ++ (k, shown.own) ∷ [];
+      back = shown.back;
+      begin = subst (λ f. BeginWith pieces (first_tops f)) shown.first_is (begin-with_piece around below [] [] shown.last tt);
+      few = omega (arith, many, shown.few);
+      shows = subst (Shows o) pushed shown.shows;
+      numbers_are = shown.numbers_are;
+      listed_are = subst (HasAll listed) (sym (only-below around below)) shown.listed_are;
+    }
+
+pub left-cannot : (k : ℕ) (r : NodeRecord) (limit : ℕ) (o : Option (RecordMap NodeRecord)) (table : List PathRow)
+    → IsDiscounted (first_tops r.first) limit (kept o table) None → IsLeftOut k r limit (kept o table) None
+unfolding IsDiscounted IsLeftOut
+left-cannot k r limit o table discounted listed count steps (around, below) shown at lists =
+    let own : List (List Step) = own_of r.kind steps in
+    let inner : List (List Step) = paths_under around below in
+    discounted listed (more_on own count) (with_piece around below []) (below-shown k r limit o listed around below shown)
+    (lists-as table listed _ _ (more-append own inner count ∙ ap (λ ps. more_on ps (more_on own count)) (sym (only-below around below))) lists)
+
 pub taken-out : (k : ℕ) (first : Option ℕ) (limit : ℕ) (o mid after : Option (RecordMap NodeRecord)) → IsCleared (first_tops first) limit o mid
     → after ≡ option_map (λ m. fin.remove m k) mid → IsTakenOut k first limit o after
 unfolding IsCleared IsTakenOut
@@ -128,3 +250,20 @@ taken-out k first limit o mid after cleared gone local number around below w xs 
     let popped : (xs ++ (k, w) ∷ []) ++ ys ≡ xs ++ (k, w) ∷ ys = simp append_assoc in
     let shows_mid : Shows mid (xs ++ (k, w) ∷ ys) = subst (Shows mid) popped (cleared local number pieces (xs ++ (k, w) ∷ []) ys begin (omega arith) (subst (Shows o) pushed shows)) in
     rw gone (shows-drop mid xs ys k w shows_mid)
+
+-- the same at the loop's turn
+pub discounted-step : (all left : List ℕ) (k limit fewer : ℕ) (ks : List ℕ) (r : NodeRecord) (o now : Option (RecordMap NodeRecord)) (table mid : List PathRow) (last : Option (List PathRow)) → all ≡ k ∷ ks
+    → ForSome o (λ m. fin.get m k ≡ Some r) → limit - 1 ≡ fewer → left ≡ with_top r.first (with_top r.right ks) → now ≡ option_map (λ m. fin.remove m k) o → IsNodeOut r.kind r.path table (Some mid)
+    → IsDiscounted left fewer (kept now mid) last → IsDiscounted all limit (kept o table) last
+discounted-step all left k limit fewer ks r o now table mid last is there one_less left_is gone out more =
+    rw is (discounted-more k limit fewer ks r o table there one_less mid last out (rw (left_is, gone) at more))
+
+-- what is left out with a node
+pub left-out : (k : ℕ) (r : NodeRecord) (limit : ℕ) (o : Option (RecordMap NodeRecord)) (table : List PathRow) (mid : List PathRow) (after : Option (List PathRow))
+    → IsDiscounted (first_tops r.first) limit (kept o table) (Some mid) → IsNodeOut r.kind r.path mid after → IsLeftOut k r limit (kept o table) after
+unfolding IsDiscounted IsLeftOut IsNodeOut
+left-out k r limit o table mid after discounted out listed count steps (around, below) shown at lists =
+    let own : List (List Step) = own_of r.kind steps in
+    let inner : List (List Step) = paths_under around below in
+    out listed count steps at (discounted listed (more_on own count) (with_piece around below []) (below-shown k r limit o listed around below shown)
+    (lists-as table listed _ _ (more-append own inner count ∙ ap (λ ps. more_on ps (more_on own count)) (sym (only-below around below))) lists))

@@ -21,7 +21,6 @@ use Rattle.sx_model.proofs.Holes.{rows-plug}
 use Rattle.sx_edit.specs.declared.fault.EditFault.{EditFault}
 use Rattle.sx_edit.specs.Damage.{IsDamaged}
 use Rattle.sx_edit.specs.EditFault.{edit_fault}
-use Rattle.sx_edit.specs.Edited.{no_path}
 use Rattle.sx_edit.specs.Holes.{frame_rows}
 use Rattle.sx_edit.specs.Room.{nodes_of, levels_in, CountsLevels, IsSite, MakesRoom, Passes}
 use Rattle.sx_edit.specs.Told.{AreDistinct, Holds, numbers_of}
@@ -80,11 +79,11 @@ site-counts : (parent next : ℕ) (o : Option (RecordMap NodeRecord)) (answer : 
     → IsSite parent next o frames frame inside → answer ≡ Some (sum_by (λ n. levels n.kind) (nodes_of (frame ∷ frames)))
 unfolding CountsLevels
 site-counts parent next o answer frames frame inside counts site =
-    let all = subst (λ l. Holds o l) (rows-plug local_hash no_path (frame ∷ frames) inside) site.shows.holds in
-    let new = new-whole local_hash no_path (frame ∷ frames) (shown local_hash inside) (rows local_hash no_path (around_hole (frame ∷ frames)) inside)
-    (subst (λ l. AreDistinct (numbers_of l)) (rows-plug local_hash no_path (frame ∷ frames) inside) site.shows.distinct) in
+    let all = subst (λ l. Holds o l) (rows-plug local_hash site.paths (frame ∷ frames) inside) site.shows.holds in
+    let new = new-whole local_hash site.paths (frame ∷ frames) (shown local_hash inside) (rows local_hash site.paths (around_hole (frame ∷ frames)) inside)
+    (subst (λ l. AreDistinct (numbers_of l)) (rows-plug local_hash site.paths (frame ∷ frames) inside) site.shows.distinct) in
     let deep = deep-plug (frame ∷ frames) inside in
-    counts local_hash no_path (frame ∷ frames) (shown local_hash inside) (rows local_hash no_path (around_hole (frame ∷ frames)) inside) new (ap (λ k. Some k) site.number) (omega (arith, deep, site.few)) all
+    counts local_hash site.paths (frame ∷ frames) (shown local_hash inside) (rows local_hash site.paths (around_hole (frame ∷ frames)) inside) new (ap (λ k. Some k) site.number) (omega (arith, deep, site.few)) all
     ∙ ap (λ n. Some n) (sym (sum_is (nodes_of (frame ∷ frames))))
 
 -- a fault that goes on, and is not damage

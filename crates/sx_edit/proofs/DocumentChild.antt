@@ -1,31 +1,34 @@
 -- The Document's child in the trees of a state.
-use Rattle.std.proofs.Common.{◌≡◌, ℕ, [], Option, Some, None, Result, Ok, Err, refl, sym, ap, subst, ◌∙◌}
+use Rattle.std.proofs.Common.{◌≡◌, ℕ, List, [], Option, Some, None, Result, Ok, Err, refl, sym, ap, subst, ◌∙◌}
 use Rattle.std.specs.Prelude.{option_and_then, option_map}
 use Rattle.std.specs.Option.{ForSome}
 use Rattle.std.specs.FinMap as fin
 use Rattle.sx_tree.specs.declared.edit.Edited.{Edited}
 use Rattle.sx_tree.specs.declared.edit.Place.TheVariants.{Last}
 use Rattle.sx_tree.specs.declared.record.NodeRecord.{NodeRecord}
+use Rattle.sx_tree.specs.declared.record.Step.{Step}
 use Rattle.sx_tree.specs.Value.{Value}
 use Rattle.sx_view.specs.Records.{RecordMap}
 use Rattle.sx_view.specs.Rows.{row_of}
 use Rattle.sx_model.specs.Edit.{Edit, apply, child_of, first_new, insert, load, load_over, replace}
-use Rattle.sx_model.specs.Records.{NodeRow, first_of}
+use Rattle.sx_model.specs.Paths.{number_of}
+use Rattle.sx_model.specs.Records.{NodeRow, PathRow, first_of}
 use Rattle.sx_model.specs.State.{State}
 use Rattle.sx_model.specs.Tree.{Node, Forest, no_trees, tree_then, IsWellFormed}
 use Rattle.sx_edit.specs.declared.fault.EditFault.{EditFault}
 use Rattle.sx_edit.specs.declared.fault.EditFault.TheVariants.{Refused, Failed, Damaged, OutOfMemory}
 use Rattle.sx_edit.specs.Answers.{AreOf, Answers, AnswersEach}
 use Rattle.sx_edit.specs.Edited.{rows_in}
+use Rattle.sx_edit.specs.Pathways.{Kept, kept}
 use Rattle.sx_edit.specs.Told.{Holds, Shows}
 use Rattle.sx_edit.proofs.Looking.{shows-state}
 use Rattle.sx_edit.proofs.Showing.{shows-get}
 
 -- the first child of the Document is what its record tells
-child-there : (trees : Forest) (o : Option (RecordMap NodeRecord)) (there : Option NodeRecord) → IsWellFormed trees → Shows o (rows_in trees) → ForSome o (λ m. there ≡ fin.get m 0)
+child-there : (number : List Step → ℕ) (trees : Forest) (o : Option (RecordMap NodeRecord)) (there : Option NodeRecord) → IsWellFormed trees → Shows o (rows_in number trees) → ForSome o (λ m. there ≡ fin.get m 0)
     → option_map (λ w. w.first) (option_map row_of there) ≡ Some (option_map (λ n. n.number) (child_of trees))
-child-there no_trees o there well shows is = absurd cc
-child-there (tree_then document below rest) o there well shows is =
+child-there number no_trees o there well shows is = absurd cc
+child-there number (tree_then document below rest) o there well shows is =
     let zero : document.number ≡ 0 = let some : Some document.number ≡ Some 0 = well.zero in cc in
     let there_d : ForSome o (λ m. there ≡ fin.get m document.number) = rw zero is in
     ap (option_map (λ (w : NodeRow). w.first)) (shows-get o there [] _ document.number _ shows there_d) ∙ ap (λ f. Some f) (first below)
@@ -34,9 +37,9 @@ child-there (tree_then document below rest) o there well shows is =
     first no_trees = refl
     first (tree_then n inner more) = refl
 
-answers-as : (edit other : Edit) (state : State) (after : Option (RecordMap NodeRecord)) (result : Result Edited EditFault) → apply edit state ≡ apply other state → first_new edit state ≡ first_new other state
+answers-as : (edit other : Edit) (state : State) (after : Kept) (result : Result Edited EditFault) → apply edit state ≡ apply other state → first_new edit state ≡ first_new other state
     → Answers edit state after result → Answers other state after result
-answers-as edit other state after (Ok edited) same first answers = (answers.0, sym same ∙ answers.1, answers.2 ∙ (λ i. record { first = first i; next = answers.0.next }), answers.3)
+answers-as edit other state after (Ok edited) same first answers = (answers.0, sym same ∙ answers.1, answers.2 ∙ (λ i. record { first = first i; next = answers.0.next }), answers.3, answers.4)
 answers-as edit other state after (Err (Refused refusal)) same first answers = sym same ∙ answers
 answers-as edit other state after (Err Failed) same first answers = tt
 answers-as edit other state after (Err (Damaged damage)) same first answers = answers
@@ -59,22 +62,22 @@ module _ (v : Value) (next : ℕ) (o : Option (RecordMap NodeRecord)) (found : O
   child-is state are = by o refl are
     where
       by : (q : Option (RecordMap NodeRecord)) → o ≡ q → AreOf state next o → found ≡ option_map (λ n. n.number) (child_of state.trees)
-      by None none are = absurd (subst (λ q. Holds q (rows_in state.trees)) none are.holds)
+      by None none are = absurd (subst (λ q. Holds q (rows_in (number_of state.paths) state.trees)) none are.holds)
       by (Some m) some are =
           found_is m some
-          ∙ from-row (fin.get m 0) _ (child-there state.trees o (fin.get m 0) are.well_formed (shows-state state next o are) (λ l e. let same : m ≡ l = cc in ap (λ r. fin.get r 0) same))
+          ∙ from-row (fin.get m 0) _ (child-there (number_of state.paths) state.trees o (fin.get m 0) are.well_formed (shows-state state next o are) (λ l e. let same : m ≡ l = cc in ap (λ r. fin.get r 0) same))
 
-  pub load-replaces : (now after : Option (RecordMap NodeRecord)) (k : ℕ) (result : Result Edited EditFault) → now ≡ o → found ≡ Some k → AnswersEach (replace k v) next now after result → AnswersEach (load v) next o after result
+  pub load-replaces : (now : Option (RecordMap NodeRecord)) (table : List PathRow) (after : Kept) (k : ℕ) (result : Result Edited EditFault) → now ≡ o → found ≡ Some k → AnswersEach (replace k v) next (kept now table) after result → AnswersEach (load v) next (kept o table) after result
   unfolding AnswersEach
-  load-replaces now after k result same child answers state are paths =
+  load-replaces now table after k result same child answers state are of_state =
       let there = number_is (child_of state.trees) k (sym (child-is state are) ∙ child) in
       let is_load : apply (replace k v) state ≡ apply (load v) state =
       ap (λ m. apply (replace m v) state) (sym there.2) ∙ ap (λ c. load_over c v state) (sym there.1) in
-      answers-as (replace k v) (load v) state after result is_load refl (answers state (subst (AreOf state next) (sym same) are) (λ n e. paths n (sym is_load ∙ e)))
+      answers-as (replace k v) (load v) state after result is_load refl (answers state (subst (AreOf state next) (sym same) are) of_state)
 
-  pub load-inserts : (now after : Option (RecordMap NodeRecord)) (result : Result Edited EditFault) → now ≡ o → found ≡ None → AnswersEach (insert (Last 0) None v) next now after result → AnswersEach (load v) next o after result
+  pub load-inserts : (now : Option (RecordMap NodeRecord)) (table : List PathRow) (after : Kept) (result : Result Edited EditFault) → now ≡ o → found ≡ None → AnswersEach (insert (Last 0) None v) next (kept now table) after result → AnswersEach (load v) next (kept o table) after result
   unfolding AnswersEach
-  load-inserts now after result same child answers state are paths =
+  load-inserts now table after result same child answers state are of_state =
       let there = none_is (child_of state.trees) (sym (child-is state are) ∙ child) in
       let is_load : apply (insert (Last 0) None v) state ≡ apply (load v) state = ap (λ c. load_over c v state) (sym there) in
-      answers-as (insert (Last 0) None v) (load v) state after result is_load refl (answers state (subst (AreOf state next) (sym same) are) (λ n e. paths n (sym is_load ∙ e)))
+      answers-as (insert (Last 0) None v) (load v) state after result is_load refl (answers state (subst (AreOf state next) (sym same) are) of_state)

@@ -4,7 +4,7 @@ use Rattle.std.specs.Prelude.{Result, IfErr, IsErrAnd}
 use Rattle.sx_view.specs.declared.fault.Fault.{Fault}
 use Rattle.sx_view.specs.declared.fault.Fault.TheVariants.{Failed, Damaged, OutOfMemory}
 use Rattle.sx_outside.specs.Faults.{Rose}
-use Rattle.sx_edit.specs.Damage.{Explains}
+use Rattle.sx_edit.specs.Damage.{Explains, IsBreachFault}
 use Rattle.sx_edit.specs.Steps.{GoesOn}
 use Rattle.sx_edit.proofs.Results.{err_again}
 
@@ -31,3 +31,8 @@ module _ {V T : Type 0} (told : V → Option T) (faults : V → ℕ) (has_mark :
   pub err-explains : {A : Type 0} (next : ℕ) (a b c : V) (r : Result A Fault) (fault : Fault) → IsErrAnd r (λ e. e ≡ fault) → GoesOn told faults has_mark marks a b
       → Explains next (told b) (Rose (faults b) (faults c)) fault → IfErr r (Explains next (told a) (Rose (faults a) (faults c)))
   err-explains next a b c r fault is first holds = err_again r fault _ is (explains_later next a b c fault first holds)
+
+pub breach_explains : {T : Type 0} (next : ℕ) (told : Option T) (rose : Type 0) (fault : Fault) → IsBreachFault next fault → Explains next told rose fault
+breach_explains next told rose Failed is = absurd is
+breach_explains next told rose (Damaged d) is = inr is
+breach_explains next told rose OutOfMemory is = absurd is

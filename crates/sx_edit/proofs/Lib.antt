@@ -1,5 +1,6 @@
 pub mod Results
 pub mod Going
+pub mod Pathing
 mod Finding
 mod Shifts
 pub mod Climbing
@@ -10,19 +11,26 @@ pub mod Relabeling
 pub mod Seeking
 pub mod Looking
 pub mod Answering
-pub mod SettingScalars
 pub mod Clearing
 pub mod Siblings
 pub mod Refilling
 pub mod Mending
+pub mod Adding
+pub mod TreePaths
+pub mod Growing
+pub mod Stopping
+pub mod Counting
+pub mod Filling
+pub mod Swapping
+pub mod Sited
+pub mod SettingScalars
 pub mod Splicing
 pub mod Naming
 pub mod NewNames
-pub mod Adding
-pub mod Growing
-pub mod Counting
-pub mod Filling
+pub mod Repathing
+pub mod NewPaths
 pub mod Refusing
+pub mod Coming
 pub mod Replacing
 pub mod Placing
 pub mod Inserting

@@ -201,7 +201,3 @@ mended-stopped next gap old new o o1 o2 linked_right linked_left adopts fits loc
 pub tree-fits : (tree : Option Tree) → hash_of_tree tree ≤ 2 ^ 128
 tree-fits None = omega arith
 tree-fits (Some tree) = let fits : tree.hash < 2 ^ 128 = tree.hash_fits in omega arith
-
-pub mended-untold : (next : ℕ) (gap : Gap) (old new : Option Tree) → IsMended next gap old new None None
-unfolding IsMended
-mended-untold next gap old new local number frames frame before olds news behind parent left right old_is new_is few room shows = absurd shows.holds

@@ -1,6 +1,6 @@
 -- What renaming answers over the records of a state.
-use Rattle.std.proofs.Common.{◌≡◌, ℕ, ◌+◌, ◌≤◌, Bool, true, false, List, [], ◌∷◌, Option, Some, None, refl, sym, ap, subst, ◌∙◌, arith}
-use Rattle.std.specs.Prelude.{◌==◌, ◌&&◌, IsTrue, Ok, Err, not, find, filter, option_map, bytes_eq}
+use Rattle.std.proofs.Common.{◌≡◌, ℕ, ◌≤◌, Bool, true, false, List, [], ◌∷◌, Option, Some, None, refl, sym, ap, subst, ◌∙◌, arith}
+use Rattle.std.specs.Prelude.{◌==◌, ◌&&◌, IsTrue, Err, not, find, filter, option_map, bytes_eq}
 use Rattle.std.specs.Option.{ForSome}
 use Rattle.std.specs.FinMap as fin
 use Rattle.std.proofs.lemmas.Grind.{common_steps}
@@ -8,32 +8,35 @@ use Rattle.sx_tree.specs.declared.edit.EditRefusal.TheVariants.{WrongKind, NameT
 use Rattle.sx_tree.specs.declared.record.Kind.{Kind}
 use Rattle.sx_tree.specs.declared.record.Kind.TheVariants.{Document, Object, Array, Key, Str, Number, Bool as Truth, Null}
 use Rattle.sx_tree.specs.declared.record.NodeRecord.{NodeRecord}
+use Rattle.sx_tree.specs.declared.record.Step.{Step}
 use Rattle.sx_view.specs.Records.{RecordMap}
 use Rattle.sx_view.specs.Rows.{row_of}
 use Rattle.sx_model.specs.Hash.{local_hash}
 use Rattle.sx_model.specs.Edit.{rename, apply, if_there, unless, wrong_kind, name_taken, other_keys, paths_spent, with_trees}
 use Rattle.sx_model.specs.State.{State}
 use Rattle.sx_model.specs.Tree.{Node, Forest, tree_then, beside, is_key, change_at, FitBelow, is_document, size, Spot, tops}
-use Rattle.sx_model.specs.Records.{NodeRow, first_of}
+use Rattle.sx_model.specs.Records.{NodeRow, PathRow, first_of}
 use Rattle.sx_model.specs.Holes.{Frame, plug, shown, around_hole, rows_before, rows_behind}
 use Rattle.sx_model.proofs.Holes.{rows-plug}
 use Rattle.sx_model.proofs.Plugging.{fit_back}
 use Rattle.sx_edit.specs.declared.fault.EditFault.TheVariants.{Refused}
-use Rattle.sx_edit.specs.Told.{Shows, Moment}
+use Rattle.sx_edit.specs.Told.{Shows}
 use Rattle.sx_edit.specs.Names.{FindsKey}
-use Rattle.sx_edit.specs.Edited.{no_path, rows_in, IsRelabeled}
+use Rattle.sx_edit.specs.Edited.{rows_in}
 use Rattle.sx_edit.specs.Answers.{AreOf, AnswersEach}
 use Rattle.sx_edit.proofs.Climbing.{some_is}
-use Rattle.sx_edit.proofs.Standing.{own_row}
+use Rattle.sx_edit.specs.Holes.{own_row}
 use Rattle.sx_edit.proofs.Relabeling.{deep-plug}
 use Rattle.sx_edit.specs.Room.{nodes_of}
 use Rattle.sx_edit.proofs.Looking.{IsSeen}
 use Rattle.sx_edit.proofs.Mending.{count-size}
-use Rattle.sx_edit.proofs.Answering.{IsNoState, paths-room}
+use Rattle.sx_edit.proofs.Answering.{IsNoState}
+use Rattle.sx_edit.specs.Pathways.{Kept, kept}
+use Rattle.sx_model.specs.Paths.{number_of}
 use Rattle.sx_edit.proofs.SettingScalars.{seen}
 use Rattle.sx_edit.proofs.Splicing.{parent-there}
 
-kind-key : (kind : Kind) → is_key kind ≡ true → kind ≡ Key
+pub kind-key : (kind : Kind) → is_key kind ≡ true → kind ≡ Key
 kind-key Document is = absurd cc
 kind-key Object is = absurd cc
 kind-key Array is = absurd cc
@@ -74,14 +77,14 @@ module _ (k : ℕ) (name : List ℕ) (next : ℕ) (r : NodeRecord) where
       ap (if_there k (λ q. unless (wrong_kind (not (is_key q.node.kind)) q.node ∷ name_taken name (other_keys q) ∷ paths_spent state new ∷ []) new)) s.at.spot
       ∙ ap (λ (kind : Kind). unless (wrong_kind (not (is_key kind)) s.at.node ∷ name_taken name (other_keys q) ∷ paths_spent state new ∷ []) new) (sym kind)
 
-  pub rename-wrong : (before after : Option (RecordMap NodeRecord)) → ForSome before (λ m. fin.get m k ≡ Some r) → is_key r.kind ≡ false
+  pub rename-wrong : (before after : Kept) → ForSome before.told (λ m. fin.get m k ≡ Some r) → is_key r.kind ≡ false
       → AnswersEach (rename k name) next before after (Err (Refused (WrongKind k r.kind)))
   unfolding AnswersEach
-  rename-wrong before after there wrong state are paths =
-      let s = seen k state next before r are there in
+  rename-wrong before after there wrong state are of_state =
+      let s = seen k state next before.told r are there in
       let new : State = with_trees state 0 (change_at k (λ n below rest. tree_then (record n { label = name }) below rest) state.trees) in
       let q : Spot = record { above = nodes_of s.at.around; siblings = beside s.at.left (tree_then s.at.node s.at.below s.at.right); node = s.at.node; below = s.at.below } in
-      rename-apply state before s ∙ ap (λ (b : Bool). unless (wrong_kind (not b) s.at.node ∷ name_taken name (other_keys q) ∷ paths_spent state new ∷ []) new) wrong
+      rename-apply state before.told s ∙ ap (λ (b : Bool). unless (wrong_kind (not b) s.at.node ∷ name_taken name (other_keys q) ∷ paths_spent state new ∷ []) new) wrong
       ∙ (λ i. Err (WrongKind (s.at.number i) (sym (ap (λ (w : NodeRow). w.kind) s.row) i)))
 
   -- a Key does not stand at the top
@@ -89,35 +92,35 @@ module _ (k : ℕ) (name : List ℕ) (next : ℕ) (r : NodeRecord) where
   unfolding IsNoState
   rename-top before there key none state are =
       let s = seen k state next before r are there in
-      top s.at.around s.at.left s.at.node s.at.below s.at.right s.row (subst (FitBelow None) s.at.stands are.well_formed.fit)
+      top (number_of state.paths) s.at.around s.at.left s.at.node s.at.below s.at.right s.row (subst (FitBelow None) s.at.stands are.well_formed.fit)
     where
-      top : (frames : List Frame) (left : Forest) (n : Node) (below right : Forest) → row_of r ≡ own_row local_hash no_path frames left n below right
+      top : (number : List Step → ℕ) (frames : List Frame) (left : Forest) (n : Node) (below right : Forest) → row_of r ≡ own_row local_hash number frames left n below right
           → FitBelow None (plug frames (beside left (tree_then n below right))) → ⊥
-      top [] left n below right row fit =
+      top number [] left n below right row fit =
           let kind : r.kind ≡ n.kind = ap (λ (w : NodeRow). w.kind) row in
           let no_key : is_key r.kind ≡ false = ap is_key kind ∙ top-kind n.kind (fit_back None left (tree_then n below right) fit).0 in
           cc
-      top (frame ∷ frames) left n below right row fit =
+      top number (frame ∷ frames) left n below right row fit =
           let up : r.parent ≡ Some frame.node.number = ap (λ (w : NodeRow). w.parent) row in
           cc
 
   -- what was found is what the state says
-  sought : (before : Option (RecordMap NodeRecord)) (p : NodeRecord) (parent : ℕ) (answer : Option (Option ℕ)) (frames : List Frame) (left : Forest) (n : Node) (below right : Forest)
-      → n.number ≡ k → row_of r ≡ own_row local_hash no_path frames left n below right → r.parent ≡ Some parent → ForSome before (λ m. fin.get m parent ≡ Some p)
+  sought : (number : List Step → ℕ) (before : Option (RecordMap NodeRecord)) (p : NodeRecord) (parent : ℕ) (answer : Option (Option ℕ)) (frames : List Frame) (left : Forest) (n : Node) (below right : Forest)
+      → n.number ≡ k → row_of r ≡ own_row local_hash number frames left n below right → r.parent ≡ Some parent → ForSome before (λ m. fin.get m parent ≡ Some p)
       → size (plug frames (beside left (tree_then n below right))) ≤ next → FindsKey (Some k) name p.first next before answer
-      → Shows before (rows_in (plug frames (beside left (tree_then n below right))))
+      → Shows before (rows_in number (plug frames (beside left (tree_then n below right))))
       → answer ≡ Some (option_map (λ m. m.number) (find (λ m. is_key m.kind && bytes_eq m.label name) (filter (λ m. not (m.number == n.number)) (tops (beside left (tree_then n below right))))))
   unfolding FindsKey
-  sought before p parent answer [] left n below right same row up there few finds shows = absurd (let top : r.parent ≡ None = ap (λ (w : NodeRow). w.parent) row in cc)
-  sought before p parent answer (frame ∷ frames) left n below right same row up there few finds shows =
+  sought number before p parent answer [] left n below right same row up there few finds shows = absurd (let top : r.parent ≡ None = ap (λ (w : NodeRow). w.parent) row in cc)
+  sought number before p parent answer (frame ∷ frames) left n below right same row up there few finds shows =
       let inside : Forest = beside left (tree_then n below right) in
       let above_is : r.parent ≡ Some frame.node.number = ap (λ (w : NodeRow). w.parent) row in
       let parent_is : parent ≡ frame.node.number = cc in
-      let p_row = some_is _ _ (parent-there frames frame inside (Some p) before shows (rw parent_is at there)) in
+      let p_row = some_is _ _ (parent-there number frames frame inside (Some p) before shows (rw parent_is at there)) in
       let first : first_of inside ≡ p.first = sym (ap (λ (w : NodeRow). w.first) p_row) in
       let deep = deep-plug (frame ∷ frames) inside in
-      let all = subst (Shows before) (rows-plug local_hash no_path (frame ∷ frames) inside) shows in
-      finds local_hash no_path (around_hole (frame ∷ frames)) inside (rows_before local_hash no_path (frame ∷ frames) (shown local_hash inside)) (rows_behind local_hash no_path (frame ∷ frames) (shown local_hash inside))
+      let all = subst (Shows before) (rows-plug local_hash number (frame ∷ frames) inside) shows in
+      finds local_hash number (around_hole (frame ∷ frames)) inside (rows_before local_hash number (frame ∷ frames) (shown local_hash inside)) (rows_behind local_hash number (frame ∷ frames) (shown local_hash inside))
       first refl (omega (arith, count-size inside)) all
       ∙ (λ i. Some (option_map (λ m. m.number) (find (λ m. not (m.number == sym same i) && (is_key m.kind && bytes_eq m.label name)) (tops inside))))
       ∙ ap (λ f. Some (option_map (λ m. m.number) f)) (sym (find-filter (λ m. is_key m.kind && bytes_eq m.label name) (λ m. not (m.number == n.number)) (tops inside)))
@@ -130,14 +133,14 @@ module _ (k : ℕ) (name : List ℕ) (next : ℕ) (r : NodeRecord) where
   taken_is state before now p parent taken are s up there same finds =
       let few : size (plug s.at.around (beside s.at.left (tree_then s.at.node s.at.below s.at.right))) ≤ next = subst (λ t. size t ≤ next) s.at.stands are.few in
       let finds_before : FindsKey (Some k) name p.first next before (Some taken) = subst (λ o. FindsKey (Some k) name p.first next o (Some taken)) same finds in
-      let found = sought before p parent (Some taken) s.at.around s.at.left s.at.node s.at.below s.at.right s.at.number s.row up there few finds_before s.shows in
+      let found = sought (number_of state.paths) before p parent (Some taken) s.at.around s.at.left s.at.node s.at.below s.at.right s.at.number s.row up there few finds_before s.shows in
       let taken_found : taken ≡ option_map (λ m. m.number) (find (λ m. is_key m.kind && bytes_eq m.label name) (filter (λ m. not (m.number == s.at.node.number)) (tops (beside s.at.left (tree_then s.at.node s.at.below s.at.right))))) = cc in
       taken_of _ ∙ ap (option_map NameTaken) (sym taken_found)
 
-  pub rename-taken : (before now after : Option (RecordMap NodeRecord)) (p : NodeRecord) (parent taken : ℕ) → ForSome before (λ m. fin.get m k ≡ Some r) → is_key r.kind ≡ true → r.parent ≡ Some parent
-      → ForSome before (λ m. fin.get m parent ≡ Some p) → now ≡ before → FindsKey (Some k) name p.first next now (Some (Some taken)) → AnswersEach (rename k name) next before after (Err (Refused (NameTaken taken)))
+  pub rename-taken : (before now : Option (RecordMap NodeRecord)) (table : List PathRow) (after : Kept) (p : NodeRecord) (parent taken : ℕ) → ForSome before (λ m. fin.get m k ≡ Some r) → is_key r.kind ≡ true → r.parent ≡ Some parent
+      → ForSome before (λ m. fin.get m parent ≡ Some p) → now ≡ before → FindsKey (Some k) name p.first next now (Some (Some taken)) → AnswersEach (rename k name) next (kept before table) after (Err (Refused (NameTaken taken)))
   unfolding AnswersEach
-  rename-taken before now after p parent taken there key up there_p same finds state are paths =
+  rename-taken before now table after p parent taken there key up there_p same finds state are of_state =
       let s = seen k state next before r are there in
       let new : State = with_trees state 0 (change_at k (λ n below rest. tree_then (record n { label = name }) below rest) state.trees) in
       let is = taken_is state before now p parent (Some taken) are s up there_p same finds in
@@ -151,25 +154,16 @@ module _ (k : ℕ) (name : List ℕ) (next : ℕ) (r : NodeRecord) where
       let s = seen k state next before r are there in
       let few : size (plug s.at.around (beside s.at.left (tree_then s.at.node s.at.below s.at.right))) ≤ next = subst (λ t. size t ≤ next) s.at.stands are.few in
       let finds_before : FindsKey (Some k) name p.first next before None = subst (λ o. FindsKey (Some k) name p.first next o None) same finds in
-      let found = sought before p parent None s.at.around s.at.left s.at.node s.at.below s.at.right s.at.number s.row up there_p few finds_before s.shows in
+      let found = sought (number_of state.paths) before p parent None s.at.around s.at.left s.at.node s.at.below s.at.right s.at.number s.row up there_p few finds_before s.shows in
       cc
 
-  pub rename-done : (old read new : Moment) (p : NodeRecord) (parent : ℕ) → ForSome old.told (λ m. fin.get m k ≡ Some r) → is_key r.kind ≡ true → r.parent ≡ Some parent
-      → ForSome old.told (λ m. fin.get m parent ≡ Some p) → read.told ≡ old.told → (now : Option (RecordMap NodeRecord)) → now ≡ old.told → FindsKey (Some k) name p.first next now (Some None)
-      → IsRelabeled k Key name read new → AnswersEach (rename k name) next old.told new.told (Ok (record { first = None; next = next }))
-  unfolding AnswersEach IsRelabeled
-  rename-done old read new p parent there key up there_p same now now_is finds relabeled state are paths =
-      let s = seen k state next old.told r are there in
-      let n : Node = s.at.node in
-      let change : Node → Forest → Forest → Forest = λ n below rest. tree_then (record n { label = name }) below rest in
-      let new_state : State = with_trees state 0 (change_at k change state.trees) in
-      let is = taken_is state old.told now p parent None are s up there_p now_is finds in
-      let is_apply = rename-apply state old.told s ∙ (λ i. unless (wrong_kind (not (key i)) n ∷ is i ∷ paths_spent state new_state ∷ []) new_state) in
-      let room = paths-room _ _ new_state (λ q e. paths q (is_apply ∙ e)) in
-      let shows_read : Shows read.told (rows_in (plug s.at.around (beside s.at.left (tree_then n s.at.below s.at.right)))) =
-      subst (λ o. Shows o (rows_in (plug s.at.around (beside s.at.left (tree_then n s.at.below s.at.right))))) (sym same) s.shows in
-      let shows = (relabeled s.at.around s.at.left n s.at.below s.at.right s.at.number shows_read).0 in
-      let kind : Key ≡ n.kind = sym (kind-key r.kind key) ∙ ap (λ (w : NodeRow). w.kind) s.row in
-      let trees_are = (λ i. plug s.at.around (beside s.at.left (tree_then (record { number = n.number; kind = kind i; label = name }) s.at.below s.at.right))) ∙ sym (s.at.changed change) in
-      let number_is : next ≡ state.next + 0 = omega (arith, are.next_is) in
-      (new_state, is_apply ∙ room, (λ i. record { first = None; next = number_is i }), (subst (λ t. Shows new.told (rows_in t)) trees_are shows).holds)
+  -- nothing but the paths can refuse it
+  pub rename-free : (before now : Option (RecordMap NodeRecord)) (p : NodeRecord) (parent : ℕ) → ForSome before (λ m. fin.get m k ≡ Some r) → is_key r.kind ≡ true → r.parent ≡ Some parent
+      → ForSome before (λ m. fin.get m parent ≡ Some p) → now ≡ before → FindsKey (Some k) name p.first next now (Some None) → (state : State) → AreOf state next before
+      → let new : State = with_trees state 0 (change_at k (λ n below rest. tree_then (record n { label = name }) below rest) state.trees) in
+      apply (rename k name) state ≡ unless (paths_spent state new ∷ []) new
+  rename-free before now p parent there key up there_p same finds state are =
+      let s = seen k state next before r are there in
+      let new : State = with_trees state 0 (change_at k (λ n below rest. tree_then (record n { label = name }) below rest) state.trees) in
+      let is = taken_is state before now p parent None are s up there_p same finds in
+      rename-apply state before s ∙ (λ i. unless (wrong_kind (not (key i)) s.at.node ∷ is i ∷ paths_spent state new ∷ []) new)

@@ -1,7 +1,7 @@
 -- Where a new value comes, in the trees of a state.
 use Rattle.std.specs.Prelude.{◌==◌}
 use Rattle.std.proofs.Common.{◌≡◌, ℕ, ◌≤◌, Bool, true, false, ◌||◌, List, [], ◌∷◌, Option, Some, None, Result, Ok, Err, refl, sym, ap, subst, ◌∙◌, arith, if◌then◌else◌}
-use Rattle.std.specs.Prelude.{IfErr, IsErrAnd}
+use Rattle.std.specs.Prelude.{IfErr, IsErrAnd, IsTrue, not}
 use Rattle.std.specs.List.{list_any}
 use Rattle.std.specs.Option.{ForSome}
 use Rattle.std.specs.FinMap as fin
@@ -11,6 +11,8 @@ use Rattle.sx_tree.specs.declared.edit.EditRefusal.{EditRefusal}
 use Rattle.sx_tree.specs.declared.edit.Place.{Place}
 use Rattle.sx_tree.specs.declared.edit.Place.TheVariants.{Before, After}
 use Rattle.sx_tree.specs.declared.edit.EditRefusal.TheVariants.{NoNode, WrongKind}
+use Rattle.sx_tree.specs.declared.record.Kind.{Kind}
+use Rattle.sx_tree.specs.declared.record.Kind.TheVariants.{Document, Object, Array, Key, Str, Number, Bool as Truth, Null}
 use Rattle.sx_tree.specs.declared.record.NodeRecord.{NodeRecord}
 use Rattle.sx_tree.specs.Value.{Value}
 use Rattle.sx_view.specs.Records.{RecordMap}
@@ -21,7 +23,7 @@ use Rattle.sx_model.specs.Holes.{Frame, Shown, plug}
 use Rattle.sx_model.specs.Records.{NodeRow, first_of, last_of}
 use Rattle.sx_model.specs.Sound.{AreBelow}
 use Rattle.sx_model.specs.State.{State}
-use Rattle.sx_model.specs.Tree.{Node, Forest, no_trees, tree_then, beside, change_at, is_key, is_scalar, numbers, Spot, spot}
+use Rattle.sx_model.specs.Tree.{Node, Forest, no_trees, tree_then, beside, change_at, is_key, is_scalar, may_stand_below, numbers, FitBelow, Spot, spot}
 use Rattle.sx_model.proofs.Holes.{shown-beside}
 use Rattle.sx_view.specs.declared.fault.Fault.{Fault}
 use Rattle.sx_edit.specs.declared.fault.EditFault.{EditFault}
@@ -30,7 +32,11 @@ use Rattle.sx_edit.specs.Damage.{IsDamaged}
 use Rattle.sx_edit.specs.EditFault.{edit_fault}
 use Rattle.sx_edit.specs.declared.trees.Target as code
 use Rattle.sx_edit.specs.Answers.{AreOf, AnswersEach}
-use Rattle.sx_edit.specs.Edited.{no_path, rows_in}
+use Rattle.sx_edit.specs.Edited.{rows_in}
+use Rattle.sx_edit.proofs.Sited.{fit_inside, seen-row}
+use Rattle.sx_model.proofs.Plugging.{above, fit_back}
+use Rattle.sx_model.specs.Paths.{number_of}
+use Rattle.sx_edit.specs.Pathways.{kept}
 use Rattle.sx_edit.specs.Places.{place_below, place_beside, IsNoPlace, IsPlace, IsPlaceAt}
 use Rattle.sx_edit.specs.Room.{nodes_of}
 use Rattle.sx_edit.specs.Told.{Shows}
@@ -41,7 +47,8 @@ use Rattle.sx_edit.proofs.Replacing.{are-below}
 use Rattle.sx_edit.proofs.Seeking.{Sought, missing, found, seek}
 use Rattle.sx_edit.proofs.SettingScalars.{seen}
 use Rattle.sx_edit.proofs.Splicing.{must_stay-below, must_stay-top, parent-kind, parent-there}
-use Rattle.sx_edit.proofs.Standing.{beside_assoc, own_row}
+use Rattle.sx_edit.proofs.Standing.{beside_assoc}
+use Rattle.sx_edit.specs.Holes.{own_row}
 
 beside_nothing : (xs : Forest) → beside xs no_trees ≡ xs
 beside_nothing no_trees = refl
@@ -64,23 +71,33 @@ not-given k next state o beyond are = go (seek k [] no_trees state.trees are.wel
 module _ (k next : ℕ) (o : Option (RecordMap NodeRecord)) where
   pub below-beyond : (last : Bool) → next ≤ k → IsNoPlace (place_below last k) next o (Refused (NoNode k))
   unfolding IsNoPlace AnswersEach
-  below-beyond true beyond name value after state are paths = ap (if_there k _) (not-given k next state o beyond are)
-  below-beyond false beyond name value after state are paths = ap (if_there k _) (not-given k next state o beyond are)
+  below-beyond true beyond name value table after state are of_state = ap (if_there k _) (not-given k next state o beyond are)
+  below-beyond false beyond name value table after state are of_state = ap (if_there k _) (not-given k next state o beyond are)
 
   pub beside-beyond : (behind : Bool) → next ≤ k → IsNoPlace (place_beside behind k) next o (Refused (NoNode k))
   unfolding IsNoPlace AnswersEach
-  beside-beyond true beyond name value after state are paths = ap (if_there k _) (not-given k next state o beyond are)
-  beside-beyond false beyond name value after state are paths = ap (if_there k _) (not-given k next state o beyond are)
+  beside-beyond true beyond name value table after state are of_state = ap (if_there k _) (not-given k next state o beyond are)
+  beside-beyond false beyond name value table after state are of_state = ap (if_there k _) (not-given k next state o beyond are)
 
   pub below-absent : (last : Bool) (there : Option NodeRecord) → ForSome o (λ m. there ≡ fin.get m k) → there ≡ None → IsNoPlace (place_below last k) next o (Refused (NoNode k))
   unfolding IsNoPlace AnswersEach
-  below-absent true there is none name value after state are paths = no-node k _ state next o there is none are
-  below-absent false there is none name value after state are paths = no-node k _ state next o there is none are
+  below-absent true there is none name value table after state are of_state = no-node k _ state next o there is none are
+  below-absent false there is none name value table after state are of_state = no-node k _ state next o there is none are
 
   pub beside-absent : (behind : Bool) (there : Option NodeRecord) → ForSome o (λ m. there ≡ fin.get m k) → there ≡ None → IsNoPlace (place_beside behind k) next o (Refused (NoNode k))
   unfolding IsNoPlace AnswersEach
-  beside-absent true there is none name value after state are paths = no-node k _ state next o there is none are
-  beside-absent false there is none name value after state are paths = no-node k _ state next o there is none are
+  beside-absent true there is none name value table after state are of_state = no-node k _ state next o there is none are
+  beside-absent false there is none name value table after state are of_state = no-node k _ state next o there is none are
+
+takes-children : (kind child : Kind) → IsTrue (may_stand_below kind child) → is_key kind ≡ false → not (is_key kind || is_scalar kind) ≡ true
+takes-children Document child stands free = refl
+takes-children Object child stands free = refl
+takes-children Array child stands free = refl
+takes-children Key child stands free = absurd cc
+takes-children Str child stands free = absurd cc
+takes-children Number child stands free = absurd cc
+takes-children Truth child stands free = absurd cc
+takes-children Null child stands free = absurd cc
 
 -- ---- below a node
 
@@ -111,9 +128,9 @@ module _ (k next : ℕ) (r : NodeRecord) (o : Option (RecordMap NodeRecord)) (th
 
   pub below-wrong : (last : Bool) → (is_key r.kind || is_scalar r.kind) ≡ true → IsNoPlace (place_below last k) next o (Refused (WrongKind k r.kind))
   unfolding IsNoPlace AnswersEach
-  below-wrong true wrong name value after state are paths =
+  below-wrong true wrong name value table after state are of_state =
       let s = seen k state next o r are there in ap (if_there k (λ q. if_place q.node _ (target_below q))) s.at.spot ∙ below-none state s _ wrong
-  below-wrong false wrong name value after state are paths =
+  below-wrong false wrong name value table after state are of_state =
       let s = seen k state next o r are there in ap (if_there k (λ q. if_place q.node _ (target_below q))) s.at.spot ∙ below-none state s _ wrong
 
   -- what the target tells of the node
@@ -123,6 +140,7 @@ module _ (k next : ℕ) (r : NodeRecord) (o : Option (RecordMap NodeRecord)) (th
     pub right : target.gap.right ≡ (if last then None else r.first)
     pub kind : target.kind ≡ r.kind
     pub first : target.first ≡ r.first
+    pub path : target.path ≡ r.path
 
   below-one : (state : State) (s : IsSeen k state o r) (make : Target → Result State EditRefusal) → (is_key r.kind || is_scalar r.kind) ≡ false
       → if_place s.at.node make (target_below (spot_of state s)) ≡ make (record { parent = s.at.node; children = s.at.below; above = nodes_of s.at.around })
@@ -145,6 +163,8 @@ module _ (k next : ℕ) (r : NodeRecord) (o : Option (RecordMap NodeRecord)) (th
         last = sym (is.left ∙ ap (λ (w : NodeRow). w.last) s.row);
         first = sym is.right;
         kind = is.kind ∙ ap (λ (w : NodeRow). w.kind) s.row;
+        path = is.path ∙ ap (λ (w : NodeRow). w.path) s.row;
+        takes = ap not (subst (λ kind. (is_key kind || is_scalar kind) ≡ false) (ap (λ (w : NodeRow). w.kind) s.row) free);
         children = is.first ∙ ap (λ (w : NodeRow). w.first) s.row ∙ ap first_of (sym nothing);
         applied = λ name value. ap (if_there k (λ q. if_place q.node (insert_below (place_below true k) name value state) (target_below q))) s.at.spot
             ∙ below-one state s (insert_below (place_below true k) name value state) free
@@ -163,6 +183,8 @@ module _ (k next : ℕ) (r : NodeRecord) (o : Option (RecordMap NodeRecord)) (th
         last = sym is.left;
         first = sym (is.right ∙ ap (λ (w : NodeRow). w.first) s.row);
         kind = is.kind ∙ ap (λ (w : NodeRow). w.kind) s.row;
+        path = is.path ∙ ap (λ (w : NodeRow). w.path) s.row;
+        takes = ap not (subst (λ kind. (is_key kind || is_scalar kind) ≡ false) (ap (λ (w : NodeRow). w.kind) s.row) free);
         children = is.first ∙ ap (λ (w : NodeRow). w.first) s.row;
         applied = λ name value. ap (if_there k (λ q. if_place q.node (insert_below (place_below false k) name value state) (target_below q))) s.at.spot
             ∙ below-one state s (insert_below (place_below false k) name value state) free;
@@ -188,16 +210,16 @@ module _ (k next : ℕ) (r : NodeRecord) (o : Option (RecordMap NodeRecord)) (th
 
   pub beside-top : (behind : Bool) → r.parent ≡ None → IsNoPlace (place_beside behind k) next o (Refused (WrongKind k r.kind))
   unfolding IsNoPlace AnswersEach
-  beside-top behind none name value after state are paths =
+  beside-top behind none name value table after state are of_state =
       let s = seen k state next o r are there in
-      beside-stays behind name value state s (must_stay-top s.at.around s.at.left s.at.node s.at.below s.at.right r s.row none)
+      beside-stays behind name value state s (must_stay-top (number_of state.paths) s.at.around s.at.left s.at.node s.at.below s.at.right r (seen-row k state o r s (number_of state.paths)) none)
 
   pub beside-value : (behind : Bool) (p : NodeRecord) (parent : ℕ) → r.parent ≡ Some parent → ForSome o (λ m. fin.get m parent ≡ Some p) → is_key p.kind ≡ true
       → IsNoPlace (place_beside behind k) next o (Refused (WrongKind k r.kind))
   unfolding IsNoPlace AnswersEach
-  beside-value behind p parent up there_p key name value after state are paths =
+  beside-value behind p parent up there_p key name value table after state are of_state =
       let s = seen k state next o r are there in
-      beside-stays behind name value state s (must_stay-below s.at.around s.at.left s.at.node s.at.below s.at.right r p parent o s.row s.shows up there_p ∙ key)
+      beside-stays behind name value state s (must_stay-below (number_of state.paths) s.at.around s.at.left s.at.node s.at.below s.at.right r p parent o (seen-row k state o r s (number_of state.paths)) s.shows up there_p ∙ key)
 
   -- what the target tells of the node and of the one above it
   pub record IsBeside (behind : Bool) (parent : ℕ) (p : NodeRecord) (target : code.Target) : Type 0 where
@@ -206,6 +228,7 @@ module _ (k next : ℕ) (r : NodeRecord) (o : Option (RecordMap NodeRecord)) (th
     pub right : target.gap.right ≡ (if behind then r.right else Some k)
     pub kind : target.kind ≡ p.kind
     pub first : target.first ≡ p.first
+    pub path : target.path ≡ p.path
 
   one-beside : (name : Option (List ℕ)) (value : Value) (place : Place) (state : State) (n parent : Node) (ns : List Node) (siblings : Forest) → is_key parent.kind ≡ false
       → if_place n (insert_below place name value state) (target_beside (parent ∷ ns) siblings) ≡ insert_below place name value state (record { parent = parent; children = siblings; above = ns })
@@ -213,19 +236,20 @@ module _ (k next : ℕ) (r : NodeRecord) (o : Option (RecordMap NodeRecord)) (th
       ap (λ (b : Bool). if_place n (insert_below place name value state) (if b then None else Some (record { parent = parent; children = siblings; above = ns }))) free
 
   beside-at : (behind : Bool) (state : State) (parent : ℕ) (p : NodeRecord) (target : code.Target) (frames : List Frame) (before : Forest) (n : Node) (below after : Forest)
-      → state.trees ≡ plug frames (beside before (tree_then n below after)) → n.number ≡ k → row_of r ≡ own_row local_hash no_path frames before n below after
-      → Shows o (rows_in (plug frames (beside before (tree_then n below after))))
+      → state.trees ≡ plug frames (beside before (tree_then n below after)) → n.number ≡ k → row_of r ≡ own_row local_hash (number_of state.paths) frames before n below after
+      → Shows o (rows_in (number_of state.paths) (plug frames (beside before (tree_then n below after))))
+      → FitBelow None (plug frames (beside before (tree_then n below after)))
       → spot k state.trees ≡ Some (record { above = nodes_of frames; siblings = beside before (tree_then n below after); node = n; below = below })
       → ((change : Node → Forest → Forest → Forest) → change_at k change state.trees ≡ plug frames (beside before (change n below after)))
       → r.parent ≡ Some parent → ForSome o (λ m. fin.get m parent ≡ Some p) → is_key p.kind ≡ false → IsBeside behind parent p target → IsPlaceAt (place_beside behind k) state target
-  beside-at behind state parent p target [] before n below after stands same row shows spot_is changed up there_p free is = absurd (let none : r.parent ≡ None = ap (λ (w : NodeRow). w.parent) row in cc)
-  beside-at true state parent p target (frame ∷ frames) before n below after stands same row shows spot_is changed up there_p free is =
+  beside-at behind state parent p target [] before n below after stands same row shows fit spot_is changed up there_p free is = absurd (let none : r.parent ≡ None = ap (λ (w : NodeRow). w.parent) row in cc)
+  beside-at true state parent p target (frame ∷ frames) before n below after stands same row shows fit spot_is changed up there_p free is =
       let above_is : r.parent ≡ Some frame.node.number = ap (λ (w : NodeRow). w.parent) row in
       let parent_is : parent ≡ frame.node.number = cc in
       let inside : Forest = beside before (tree_then n below after) in
       let there_f : ForSome o (λ m. fin.get m frame.node.number ≡ Some p) = rw parent_is at there_p in
-      let kind = parent-kind frames frame inside p o shows there_f in
-      let p_row = some_is _ _ (parent-there frames frame inside (Some p) o shows there_f) in
+      let kind = parent-kind (number_of state.paths) frames frame inside p o shows there_f in
+      let p_row = some_is _ _ (parent-there (number_of state.paths) frames frame inside (Some p) o shows there_f) in
       let joined : beside (beside before (tree_then n below no_trees)) after ≡ inside = beside_assoc before (tree_then n below no_trees) after in
       let last_is : last_of (beside before (tree_then n below no_trees)) ≡ Some n.number = ap (λ (s : Shown). s.last) (shown-beside local_hash before (tree_then n below no_trees)) in
       record {
@@ -238,19 +262,21 @@ module _ (k next : ℕ) (r : NodeRecord) (o : Option (RecordMap NodeRecord)) (th
         last = last_is ∙ ap (λ m. Some m) same ∙ sym is.left;
         first = sym (is.right ∙ ap (λ (w : NodeRow). w.right) row);
         kind = is.kind ∙ kind;
+        path = is.path ∙ ap (λ (w : NodeRow). w.path) p_row;
+        takes = takes-children frame.node.kind n.kind (fit_back (above (frame ∷ frames)) before (tree_then n below after) (fit_inside (frame ∷ frames) inside fit)).0 (sym (ap is_key kind) ∙ free);
         children = is.first ∙ ap (λ (w : NodeRow). w.first) p_row ∙ ap first_of (sym joined);
         applied = λ name value. ap (if_there k (λ q. if_place q.node (insert_below (After k) name value state) (target_beside q.above q.siblings))) spot_is
             ∙ one-beside name value (After k) state n frame.node (nodes_of frames) inside (sym (ap is_key kind) ∙ free)
             ∙ ap (λ t. insert_below (After k) name value state (record { parent = frame.node; children = t; above = nodes_of frames })) (sym joined);
         made = λ enter. changed (λ n below rest. tree_then n below (enter rest)) ∙ ap (plug (frame ∷ frames)) (sym (beside_assoc before (tree_then n below no_trees) (enter after)));
       }
-  beside-at false state parent p target (frame ∷ frames) before n below after stands same row shows spot_is changed up there_p free is =
+  beside-at false state parent p target (frame ∷ frames) before n below after stands same row shows fit spot_is changed up there_p free is =
       let above_is : r.parent ≡ Some frame.node.number = ap (λ (w : NodeRow). w.parent) row in
       let parent_is : parent ≡ frame.node.number = cc in
       let inside : Forest = beside before (tree_then n below after) in
       let there_f : ForSome o (λ m. fin.get m frame.node.number ≡ Some p) = rw parent_is at there_p in
-      let kind = parent-kind frames frame inside p o shows there_f in
-      let p_row = some_is _ _ (parent-there frames frame inside (Some p) o shows there_f) in
+      let kind = parent-kind (number_of state.paths) frames frame inside p o shows there_f in
+      let p_row = some_is _ _ (parent-there (number_of state.paths) frames frame inside (Some p) o shows there_f) in
       record {
         frames = frames;
         frame = frame;
@@ -261,6 +287,8 @@ module _ (k next : ℕ) (r : NodeRecord) (o : Option (RecordMap NodeRecord)) (th
         last = sym (is.left ∙ ap (λ (w : NodeRow). w.left) row);
         first = ap (λ m. Some m) same ∙ sym is.right;
         kind = is.kind ∙ kind;
+        path = is.path ∙ ap (λ (w : NodeRow). w.path) p_row;
+        takes = takes-children frame.node.kind n.kind (fit_back (above (frame ∷ frames)) before (tree_then n below after) (fit_inside (frame ∷ frames) inside fit)).0 (sym (ap is_key kind) ∙ free);
         children = is.first ∙ ap (λ (w : NodeRow). w.first) p_row;
         applied = λ name value. ap (if_there k (λ q. if_place q.node (insert_below (Before k) name value state) (target_beside q.above q.siblings))) spot_is
             ∙ one-beside name value (Before k) state n frame.node (nodes_of frames) inside (sym (ap is_key kind) ∙ free);
@@ -272,11 +300,11 @@ module _ (k next : ℕ) (r : NodeRecord) (o : Option (RecordMap NodeRecord)) (th
   unfolding IsPlace
   beside-place behind parent p target up there_p free is state are =
       let s = seen k state next o r are there in
-      beside-at behind state parent p target s.at.around s.at.left s.at.node s.at.below s.at.right s.at.stands s.at.number s.row s.shows s.at.spot s.at.changed up there_p free is
+      beside-at behind state parent p target s.at.around s.at.left s.at.node s.at.below s.at.right s.at.stands s.at.number s.row s.shows (subst (FitBelow None) s.at.stands are.well_formed.fit) s.at.spot s.at.changed up there_p free is
 
 -- a damage on the way, or a fault that goes on
 pub fault-no_place : (place : Place) (next : ℕ) (o : Option (RecordMap NodeRecord)) (fault : Fault) (r : Result code.Target EditFault) → IsErrAnd r (λ e. e ≡ edit_fault fault) → (IsDamaged fault → IsNoState next o)
     → IfErr r (IsNoPlace place next o)
 unfolding IsNoPlace
 fault-no_place place next o fault (Ok x) is damaged = absurd is
-fault-no_place place next o fault (Err e) is damaged = λ name value after. err-answers (insert place name value) next o after (Err e) fault is damaged
+fault-no_place place next o fault (Err e) is damaged = λ name value table after. err-answers (insert place name value) next (kept o table) after (Err e) fault is damaged

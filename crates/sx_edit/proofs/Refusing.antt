@@ -2,13 +2,12 @@
 use Rattle.std.proofs.Common.{◌≡◌, List, ◌∷◌, Option, Some, None, Result, Ok, Err, refl, ap, subst}
 use Rattle.std.specs.Option.{option_or}
 use Rattle.sx_tree.specs.declared.edit.EditRefusal.{EditRefusal}
-use Rattle.sx_tree.specs.declared.record.NodeRecord.{NodeRecord}
-use Rattle.sx_view.specs.Records.{RecordMap}
 use Rattle.sx_model.specs.Edit.{Edit, apply, unless}
 use Rattle.sx_model.specs.State.{State}
 use Rattle.sx_edit.specs.declared.fault.EditFault.{EditFault}
 use Rattle.sx_edit.specs.declared.fault.EditFault.TheVariants.{Refused, Failed, Damaged, OutOfMemory}
 use Rattle.sx_edit.specs.Answers.{Answers}
+use Rattle.sx_edit.specs.Pathways.{Kept}
 use Rattle.sx_edit.specs.Room.{Passes}
 
 -- neither of the two stands
@@ -26,7 +25,7 @@ pub past : (a b : Option EditRefusal) (refusals : List (Option EditRefusal)) (ne
 past a b refusals new is = let none = neither a b is in (λ i. unless (none.0 i ∷ none.1 i ∷ refusals) new)
 
 -- what a step answers for a refusal is what the edit answers, where the edit is refused by it
-pub passes-answers : {T : Type 0} (edit : Edit) (state : State) (after : Option (RecordMap NodeRecord)) (refusal : Option EditRefusal) (step : Result T EditFault) (e : EditFault) → step ≡ Err e
+pub passes-answers : {T : Type 0} (edit : Edit) (state : State) (after : Kept) (refusal : Option EditRefusal) (step : Result T EditFault) (e : EditFault) → step ≡ Err e
     → Passes refusal step → ((told : EditRefusal) → refusal ≡ Some told → apply edit state ≡ Err told) → Answers edit state after (Err e)
 passes-answers edit state after refusal (Ok x) e is passes refused = absurd cc
 passes-answers edit state after refusal (Err (Refused told)) e is passes refused = subst (λ x. Answers edit state after (Err x)) (let same : Refused told ≡ e = cc in same) (refused told passes)

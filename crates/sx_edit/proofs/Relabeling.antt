@@ -1,41 +1,31 @@
 -- Another kind and label of a node, and what is left to lift then.
-use Rattle.std.proofs.Common.{◌≡◌, ℕ, ◌+◌, ◌*◌, ◌≤◌, ◌<◌, List, [], ◌∷◌, ◌++◌, length, Option, Some, refl, sym, ap, subst, ◌∙◌, add-zero, arith}
+use Rattle.std.proofs.Common.{◌≡◌, ℕ, ◌+◌, ◌*◌, ◌≤◌, ◌<◌, List, [], ◌∷◌, ◌++◌, length, Option, Some, refl, sym, ap, subst, ◌∙◌, add-zero, append_assoc, arith}
 use Rattle.std.specs.Prelude.{◌%◌, ◌^◌, ◌-◌, option_map}
-use Rattle.std.specs.Option.{ForSome, option_or}
+use Rattle.std.specs.Option.{ForSome}
 use Rattle.std.specs.FinMap as fin
 use Rattle.std.proofs.Math.Nat.{add-mod-mod, mod-add-mod}
 use Rattle.sx_tree.specs.declared.record.Kind.{Kind}
 use Rattle.sx_tree.specs.declared.record.NodeRecord.{NodeRecord}
+use Rattle.sx_tree.specs.declared.record.Step.{Step}
 use Rattle.sx_view.specs.Records.{RecordMap}
 use Rattle.sx_view.specs.Rows.{row_of}
 use Rattle.sx_model.specs.Hash.{local_hash}
 use Rattle.sx_model.specs.Tree.{Node, Forest, no_trees, tree_then, beside, size}
-use Rattle.sx_model.specs.Records.{Around, NodeRow, around_children, first_of, row, rows}
-use Rattle.sx_model.specs.Holes.{Frame, Shown, plug, filled, shown, around_hole}
-use Rattle.sx_model.proofs.Holes.{rows-plug}
-use Rattle.sx_edit.specs.Holes.{AreNew, above, IsShift, IsAlike, top_shown, whole}
+use Rattle.sx_model.specs.Records.{NodeRow, rows}
+use Rattle.sx_model.specs.Holes.{Frame, Shown, plug, filled, shown, around_hole, rows_before, rows_behind}
+use Rattle.sx_edit.specs.Holes.{AreNew, above, IsShift, IsAlike, top_shown, whole, own_row, before_own, behind_own}
 use Rattle.sx_edit.specs.Told.{AreDistinct, Shows, Moment, IsLifted, CannotLift}
-use Rattle.sx_edit.specs.Edited.{no_path, rows_in, IsRelabeled, CannotRelabel}
+use Rattle.sx_edit.specs.Edited.{Standing, labeled, rows_with, IsRelabeled, CannotRelabel}
 use Rattle.sx_edit.proofs.Climbing.{some_is, parent-around_hole}
 use Rattle.sx_edit.proofs.Showing.{shows-get, shows-put}
 use Rattle.sx_edit.proofs.Shifts.{hash_among}
-use Rattle.sx_edit.proofs.Standing.{shown-with_node, top_shown-plug, new-whole, numbers-whole, own_row, before_own, behind_own, rows-own}
+use Rattle.sx_edit.proofs.Standing.{shown-with_node, top_shown-plug, new-whole, numbers-whole}
 
 hash_changed : (M l k s d : ℕ) → k % M ≡ (l + d) % M → (k + 257 * s) % M ≡ ((l + 257 * s) % M + d) % M
 hash_changed M l k s d is =
     let regrouped : l + d + 257 * s ≡ l + 257 * s + d = omega arith in
     sym (mod-add-mod k M (257 * s)) ∙ ap (λ z. (z + 257 * s) % M) is ∙ mod-add-mod (l + d) M (257 * s) ∙ ap (λ z. z % M) regrouped
     ∙ sym (mod-add-mod (l + 257 * s) M d)
-
--- where no paths are told, the rows of trees show only the number above them and the links beside them
-pub rows-moved : (local : Kind → List ℕ → ℕ) (here there : Around) (trees : Forest)
-    → option_map (λ m. m.number) here.above ≡ option_map (λ m. m.number) there.above → here.left ≡ there.left → here.right ≡ there.right
-    → rows local no_path here trees ≡ rows local no_path there trees
-rows-moved local here there no_trees up left right = refl
-rows-moved local here there (tree_then n below rest) up left right =
-    let inner = rows-moved local (around_children here n) (around_children there n) below refl refl refl in
-    let others = rows-moved local (record here { left = Some n.number }) (record there { left = Some n.number }) rest up refl right in
-    λ i. (n.number, record (row local no_path here n below) { parent = up i; left = left i; right = option_or (first_of rest) (right i) }) ∷ (inner i ++ others i)
 
 pub size-beside : (xs ys : Forest) → size (beside xs ys) ≡ size xs + size ys
 size-beside no_trees ys = omega arith
@@ -46,89 +36,93 @@ pub deep-plug : (frames : List Frame) (inside : Forest) → length frames + size
 deep-plug [] inside = omega arith
 deep-plug (frame ∷ frames) inside = omega (arith, deep-plug frames (filled frame inside), size-beside frame.before (tree_then frame.node inside frame.behind))
 
--- the record of a node that got another kind and label, and so d more as its hash
-pub record IsRenewed (k : ℕ) (kind : Kind) (label : List ℕ) (d : ℕ) (r s : NodeRecord) : Type 0 where
-  pub changed : row_of s ≡ record (row_of r) { kind = kind; label = label; hash = (r.hash + d) % 2 ^ 128 }
+-- the record of a node that got another kind, label and path, and so d more as its hash
+pub record IsRenewed (k : ℕ) (kind : Kind) (label : List ℕ) (path d : ℕ) (r s : NodeRecord) : Type 0 where
+  pub changed : row_of s ≡ record (row_of r) { kind = kind; label = label; hash = (r.hash + d) % 2 ^ 128; path = path }
   pub more : local_hash kind label % 2 ^ 128 ≡ (local_hash r.kind r.label + d) % 2 ^ 128
 
 -- what is left to lift
-record IsHalfway (parent : Option ℕ) (d : ℕ) (mid : Option (RecordMap NodeRecord)) (frames : List Frame) (a b : Shown) (hole : List (ℕ × NodeRow)) : Type 0 where
+record IsHalfway (number : List Step → ℕ) (parent : Option ℕ) (d : ℕ) (mid : Option (RecordMap NodeRecord)) (frames : List Frame) (a b : Shown) (hole : List (ℕ × NodeRow)) : Type 0 where
   up : above frames ≡ parent
   new : AreNew frames
   shift : IsShift 0 0 d a b
   alike : IsAlike a b
-  shows : Shows mid (whole local_hash no_path frames a hole)
+  shows : Shows mid (whole local_hash number frames a hole)
 
-halfway : (k : ℕ) (kind : Kind) (label : List ℕ) (d : ℕ) (r s : NodeRecord) (old mid : Option (RecordMap NodeRecord)) (frames : List Frame) (before : Forest) (n : Node) (below behind : Forest)
-    → let relabeled : Node = record { number = n.number; kind = kind; label = label } in
-    let inside : Forest = beside before (tree_then n below behind) in
-    let changed : Forest = beside before (tree_then relabeled below behind) in
-    n.number ≡ k → ForSome old (λ m. fin.get m k ≡ Some r) → IsRenewed k kind label d r s → mid ≡ option_map (λ m. fin.insert m k s) old
-    → Shows old (rows_in (plug frames inside))
-    → IsHalfway r.parent d mid frames (shown local_hash inside) (shown local_hash changed) (rows local_hash no_path (around_hole frames) changed)
-halfway k kind label d r s old mid frames before n below behind same there renewed put shows =
+regroup : (f b h l m : List (ℕ × NodeRow)) (e : ℕ × NodeRow) → f ++ ((b ++ e ∷ (h ++ l)) ++ m) ≡ (f ++ b) ++ e ∷ (h ++ (l ++ m))
+regroup f b h l m e = simp append_assoc
+
+-- the rows in the hole, where the node's own is this
+abbrev hole_with : (List Step → ℕ) → Standing → NodeRow → List (ℕ × NodeRow) → List (ℕ × NodeRow)
+hole_with number at own inner =
+    rows local_hash number (record (around_hole at.frames) { right = Some at.node.number }) at.before
+    ++ (at.node.number, own) ∷ (inner ++ rows local_hash number (record (around_hole at.frames) { left = Some at.node.number }) at.behind)
+
+halfway : (k : ℕ) (kind : Kind) (label : List ℕ) (path d : ℕ) (r s : NodeRecord) (old mid : Option (RecordMap NodeRecord)) (number : List Step → ℕ) (at : Standing) (was : ℕ) (inner : List (ℕ × NodeRow))
+    → let now : Standing = labeled at kind label in
+    at.node.number ≡ k → ForSome old (λ m. fin.get m k ≡ Some r) → IsRenewed k kind label path d r s → mid ≡ option_map (λ m. fin.insert m k s) old
+    → Shows old (rows_with number at was inner)
+    → IsHalfway number r.parent d mid at.frames (shown local_hash (beside at.before (tree_then at.node at.below at.behind))) (shown local_hash (beside at.before (tree_then now.node at.below at.behind)))
+    (hole_with number at (record (own_row local_hash number at.frames at.before now.node at.below at.behind) { path = path }) inner)
+halfway k kind label path d r s old mid number at was inner same there renewed put shows =
+    let n : Node = at.node in
     let relabeled : Node = record { number = n.number; kind = kind; label = label } in
-    let inside : Forest = beside before (tree_then n below behind) in
-    let changed : Forest = beside before (tree_then relabeled below behind) in
-    let a : Shown = shown local_hash inside in
-    let b : Shown = shown local_hash changed in
-    let here : NodeRow = own_row local_hash no_path frames before n below behind in
-    let new_row : NodeRow = own_row local_hash no_path frames before relabeled below behind in
-    let xs : List (ℕ × NodeRow) = before_own local_hash no_path frames a before n.number in
-    let ys : List (ℕ × NodeRow) = rows local_hash no_path (around_children (around_hole frames) n) below ++ behind_own local_hash no_path frames a n.number behind in
+    let a : Shown = shown local_hash (beside at.before (tree_then n at.below at.behind)) in
+    let here : NodeRow = record (own_row local_hash number at.frames at.before n at.below at.behind) { path = was } in
+    let new_row : NodeRow = record (own_row local_hash number at.frames at.before relabeled at.below at.behind) { path = path } in
+    let xs : List (ℕ × NodeRow) = before_own local_hash number at.frames a at.before n.number in
+    let ys : List (ℕ × NodeRow) = inner ++ behind_own local_hash number at.frames a n.number at.behind in
+    let hole : List (ℕ × NodeRow) = hole_with number at new_row inner in
     let there_n : ForSome old (λ m. Some r ≡ fin.get m n.number) = rw same (λ m e. sym (there m e)) in
-    let shows_own : Shows old (xs ++ (n.number, here) ∷ ys) =
-    subst (Shows old) (rows-plug local_hash no_path frames inside ∙ rows-own local_hash no_path frames a before n below behind) shows in
-    let known : row_of r ≡ here = some_is _ _ (shows-get old (Some r) xs ys n.number here shows_own there_n) in
+    let known : row_of r ≡ here = some_is _ _ (shows-get old (Some r) xs ys n.number here shows there_n) in
     let kind_is : r.kind ≡ n.kind = ap (λ (w : NodeRow). w.kind) known in
     let label_is : r.label ≡ n.label = ap (λ (w : NodeRow). w.label) known in
     let more : local_hash kind label % 2 ^ 128 ≡ (local_hash n.kind n.label + d) % 2 ^ 128 = rw (kind_is, label_is) at renewed.more in
-    let hash = hash_changed (2 ^ 128) (local_hash n.kind n.label) (local_hash kind label) (shown local_hash below).hashes d more in
+    let hash = hash_changed (2 ^ 128) (local_hash n.kind n.label) (local_hash kind label) (shown local_hash at.below).hashes d more in
     let row_is : row_of s ≡ new_row =
-    renewed.changed ∙ ap (λ (w : NodeRow). record w { kind = kind; label = label; hash = (w.hash + d) % 2 ^ 128 }) known ∙ (λ i. record here { kind = kind; label = label; hash = sym hash i }) in
+    renewed.changed ∙ ap (λ (w : NodeRow). record w { kind = kind; label = label; hash = (w.hash + d) % 2 ^ 128; path = path }) known ∙ (λ i. record here { kind = kind; label = label; hash = sym hash i; path = path }) in
     let put_n : option_map (λ m. fin.insert m n.number s) old ≡ mid = rw same (sym put) in
     let shows_put : Shows mid (xs ++ (n.number, new_row) ∷ ys) =
-    subst (λ o. Shows o (xs ++ (n.number, new_row) ∷ ys)) put_n (shows-put old s xs ys n.number here new_row row_is shows_own) in
-    let moved = rows-moved local_hash (around_children (around_hole frames) n) (around_children (around_hole frames) relabeled) below refl refl refl in
-    let regrouped = ap (λ l. xs ++ (n.number, new_row) ∷ (l ++ behind_own local_hash no_path frames a n.number behind)) moved ∙ sym (rows-own local_hash no_path frames a before relabeled below behind) in
-    let shows_mid : Shows mid (whole local_hash no_path frames a (rows local_hash no_path (around_hole frames) changed)) = subst (Shows mid) regrouped shows_put in
-    let a_is = shown-with_node local_hash before n below behind in
-    let b_is = shown-with_node local_hash before relabeled below behind in
+    subst (λ o. Shows o (xs ++ (n.number, new_row) ∷ ys)) put_n (shows-put old s xs ys n.number here new_row row_is shows) in
+    let shows_mid : Shows mid (whole local_hash number at.frames a hole) = subst (Shows mid) (sym (regroup (rows_before local_hash number at.frames a) _ inner _ (rows_behind local_hash number at.frames a) (n.number, new_row))) shows_put in
+    let a_is = shown-with_node local_hash at.before n at.below at.behind in
+    let b_is = shown-with_node local_hash at.before relabeled at.below at.behind in
     record {
-      up = sym (ap (λ (w : NodeRow). w.parent) known ∙ parent-around_hole local_hash no_path frames);
-      new = new-whole local_hash no_path frames a (rows local_hash no_path (around_hole frames) changed) shows_mid.distinct;
+      up = sym (ap (λ (w : NodeRow). w.parent) known ∙ parent-around_hole local_hash number at.frames);
+      new = new-whole local_hash number at.frames a hole shows_mid.distinct;
       shift = rw (a_is, b_is) (record { nodes = refl; hashes = hash_among (2 ^ 128) _ _ _ _ d hash });
       alike = rw (a_is, b_is) (record { first = refl; last = refl; trees = refl });
       shows = shows_mid;
     }
 
-pub relabeled-lifted : (k : ℕ) (kind : Kind) (label : List ℕ) (d : ℕ) (r s : NodeRecord) (old mid new : Moment)
-    → ForSome old.told (λ m. fin.get m k ≡ Some r) → IsRenewed k kind label d r s → mid.told ≡ option_map (λ m. fin.insert m k s) old.told → mid.gets ≡ old.gets
-    → IsLifted r.parent 0 0 d mid new → IsRelabeled k kind label old new
+pub relabeled-lifted : (k : ℕ) (kind : Kind) (label : List ℕ) (path d : ℕ) (r s : NodeRecord) (old mid new : Moment)
+    → ForSome old.told (λ m. fin.get m k ≡ Some r) → IsRenewed k kind label path d r s → mid.told ≡ option_map (λ m. fin.insert m k s) old.told → mid.gets ≡ old.gets
+    → IsLifted r.parent 0 0 d mid new → IsRelabeled k kind label path old new
 unfolding IsLifted IsRelabeled
-relabeled-lifted k kind label d r s old mid new there renewed put gets lifted frames before n below behind same shows =
-    let relabeled : Node = record { number = n.number; kind = kind; label = label } in
-    let changed : Forest = beside before (tree_then relabeled below behind) in
-    let half = halfway k kind label d r s old.told mid.told frames before n below behind same there renewed put shows in
-    let hole : List (ℕ × NodeRow) = rows local_hash no_path (around_hole frames) changed in
-    let last = lifted local_hash no_path frames (shown local_hash (beside before (tree_then n below behind))) (shown local_hash changed) hole half.new half.up half.shift half.alike half.shows.holds in
-    let all : Shows new.told (whole local_hash no_path frames (shown local_hash changed) hole) = record {
+relabeled-lifted k kind label path d r s old mid new there renewed put gets lifted number at was inner same shows =
+    let now : Standing = labeled at kind label in
+    let half = halfway k kind label path d r s old.told mid.told number at was inner same there renewed put shows in
+    let b : Shown = shown local_hash (beside at.before (tree_then now.node at.below at.behind)) in
+    let own : NodeRow = record (own_row local_hash number at.frames at.before now.node at.below at.behind) { path = path } in
+    let hole : List (ℕ × NodeRow) = hole_with number at own inner in
+    let last = lifted local_hash number at.frames (shown local_hash (beside at.before (tree_then at.node at.below at.behind))) b hole half.new half.up half.shift half.alike half.shows.holds in
+    let all : Shows new.told (whole local_hash number at.frames b hole) = record {
       holds = last.0;
-      distinct = subst AreDistinct (numbers-whole local_hash no_path frames _ (shown local_hash changed) hole) half.shows.distinct;
+      distinct = subst AreDistinct (numbers-whole local_hash number at.frames _ b hole) half.shows.distinct;
     } in
     let few = last.1 in
-    (subst (Shows new.told) (sym (rows-plug local_hash no_path frames changed)) all, omega arith)
+    (subst (Shows new.told) (regroup (rows_before local_hash number at.frames b) _ inner _ (rows_behind local_hash number at.frames b) (at.node.number, own)) all, omega arith)
 
-pub relabel-possible : (k : ℕ) (kind : Kind) (label : List ℕ) (d limit : ℕ) (r s : NodeRecord) (old mid : Option (RecordMap NodeRecord))
-    → ForSome old (λ m. fin.get m k ≡ Some r) → IsRenewed k kind label d r s → mid ≡ option_map (λ m. fin.insert m k s) old → limit < 2 ^ 32
+pub relabel-possible : (k : ℕ) (kind : Kind) (label : List ℕ) (path d limit : ℕ) (r s : NodeRecord) (old mid : Option (RecordMap NodeRecord))
+    → ForSome old (λ m. fin.get m k ≡ Some r) → IsRenewed k kind label path d r s → mid ≡ option_map (λ m. fin.insert m k s) old → limit < 2 ^ 32
     → CannotLift r.parent 0 0 limit mid → CannotRelabel k limit old
 unfolding CannotLift CannotRelabel
-relabel-possible k kind label d limit r s old mid there renewed put room cannot frames before n below behind same few shows =
-    let inside : Forest = beside before (tree_then n below behind) in
-    let half = halfway k kind label d r s old mid frames before n below behind same there renewed put shows in
-    let deep = deep-plug frames inside in
-    let all : (top_shown local_hash frames (shown local_hash inside)).nodes ≡ size (plug frames inside) = ap (λ (w : Shown). w.nodes) (top_shown-plug local_hash frames inside) in
-    cannot local_hash no_path frames (shown local_hash inside) _ half.new half.up (omega arith) (omega arith) (omega arith) half.shows.holds
+relabel-possible k kind label path d limit r s old mid there renewed put room cannot number at was inner same few shows =
+    let inside : Forest = beside at.before (tree_then at.node at.below at.behind) in
+    let half = halfway k kind label path d r s old mid number at was inner same there renewed put shows in
+    let deep = deep-plug at.frames inside in
+    let all : (top_shown local_hash at.frames (shown local_hash inside)).nodes ≡ size (plug at.frames inside) = ap (λ (w : Shown). w.nodes) (top_shown-plug local_hash at.frames inside) in
+    cannot local_hash number at.frames (shown local_hash inside) _ half.new half.up (omega arith) (omega arith) (omega arith) half.shows.holds
 
 -- a sum of hashes in which one took the place of another
 pub difference_of : (old new l k : ℕ) → k + old ≡ l + new → old ≤ 2 ^ 128 → k % 2 ^ 128 ≡ (l + (new + (2 ^ 128 - old)) % 2 ^ 128) % 2 ^ 128

@@ -1,12 +1,12 @@
 -- The rows of trees with a node among them, and what stands around it.
-use Rattle.std.proofs.Common.{◌≡◌, ℕ, List, [], ◌∷◌, ◌++◌, Some, None, refl, sym, ap, subst, ◌∙◌, append_assoc}
+use Rattle.std.proofs.Common.{◌≡◌, ℕ, List, [], ◌∷◌, ◌++◌, None, refl, sym, ap, subst, ◌∙◌, append_assoc}
 use Rattle.sx_tree.specs.declared.record.Kind.{Kind}
 use Rattle.sx_tree.specs.declared.record.Step.{Step}
 use Rattle.sx_model.specs.Tree.{Node, Forest, no_trees, tree_then, beside, numbers}
-use Rattle.sx_model.specs.Records.{NodeRow, around_children, first_of, last_of, rows}
-use Rattle.sx_model.specs.Holes.{Frame, Shown, join, plug, filled, shown, shown_one, shown_by, around_hole, row_over, rows_before, rows_behind}
+use Rattle.sx_model.specs.Records.{NodeRow, around_children, rows}
+use Rattle.sx_model.specs.Holes.{Frame, Shown, join, plug, filled, shown, shown_one, shown_by, around_hole, rows_before, rows_behind}
 use Rattle.sx_model.proofs.Holes.{or_none, shown-beside, shown-filled, rows-beside}
-use Rattle.sx_edit.specs.Holes.{numbers_before, AreNew, top_shown, whole}
+use Rattle.sx_edit.specs.Holes.{numbers_before, AreNew, before_own, behind_own, own_row, top_shown, whole}
 use Rattle.sx_edit.specs.Told.{AreDistinct, numbers_of}
 use Rattle.sx_edit.proofs.Climbing.{map-append, numbers-rows_before}
 use Rattle.sx_edit.proofs.Showing.{apart}
@@ -14,9 +14,6 @@ use Rattle.sx_edit.proofs.Showing.{apart}
 pub beside_assoc : (xs ys zs : Forest) → beside (beside xs ys) zs ≡ beside xs (beside ys zs)
 beside_assoc no_trees ys zs = refl
 beside_assoc (tree_then n below rest) ys zs = ap (tree_then n below) (beside_assoc rest ys zs)
-
-pub assoc_3 : (xs ys zs : List (ℕ × NodeRow)) → (xs ++ ys) ++ zs ≡ xs ++ (ys ++ zs)
-assoc_3 xs ys zs = simp append_assoc
 
 pub around-left : (frames : List Frame) → (around_hole frames).left ≡ None
 around-left [] = refl
@@ -59,24 +56,11 @@ module _ (local : Kind → List ℕ → ℕ) (number : List Step → ℕ) where
   pub numbers-whole : (frames : List Frame) (a b : Shown) (hole : List (ℕ × NodeRow)) → numbers_of (whole local number frames a hole) ≡ numbers_of (whole local number frames b hole)
   numbers-whole frames a b hole = simp (map-append, numbers-rows_before, numbers-rows_behind frames a b)
 
-  -- the node's own row
-  abbrev pub own_row : List Frame → Forest → Node → Forest → Forest → NodeRow
-  own_row frames before n below behind =
-      row_over local number (record (around_hole frames) { left = last_of before; right = first_of behind }) n (shown local below)
-
-  -- the rows before the node's own
-  abbrev pub before_own : List Frame → Shown → Forest → ℕ → List (ℕ × NodeRow)
-  before_own frames a before k = rows_before local number frames a ++ rows local number (record (around_hole frames) { right = Some k }) before
-
-  -- the rows behind those of the trees below it
-  abbrev pub behind_own : List Frame → Shown → ℕ → Forest → List (ℕ × NodeRow)
-  behind_own frames a k behind = rows local number (record (around_hole frames) { left = Some k }) behind ++ rows_behind local number frames a
-
   -- whole rows with the node's own among them
   pub rows-own : (frames : List Frame) (a : Shown) (before : Forest) (n : Node) (below behind : Forest)
       → whole local number frames a (rows local number (around_hole frames) (beside before (tree_then n below behind)))
-      ≡ before_own frames a before n.number
-      ++ (n.number, own_row frames before n below behind)
-      ∷ (rows local number (around_children (around_hole frames) n) below ++ behind_own frames a n.number behind)
+      ≡ before_own local number frames a before n.number
+      ++ (n.number, own_row local number frames before n below behind)
+      ∷ (rows local number (around_children (around_hole frames) n) below ++ behind_own local number frames a n.number behind)
   rows-own frames a before n below behind =
       simp (rows-beside, around-left frames, around-right frames, or_none, append_assoc)

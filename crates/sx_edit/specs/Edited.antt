@@ -1,5 +1,5 @@
--- What an edit leaves of records.
-use Rattle.std.specs.Prelude.{◌≡◌, ℕ, ◌+◌, ◌≤◌, List, length, Option}
+-- What another label of a node leaves of records.
+use Rattle.std.specs.Prelude.{◌≡◌, ℕ, ◌+◌, ◌≤◌, List, ◌∷◌, ◌++◌, length, Option}
 use Rattle.sx_tree.specs.declared.record.Kind.{Kind}
 use Rattle.sx_tree.specs.declared.record.Step.{Step}
 use Rattle.sx_tree.specs.declared.record.NodeRecord.{NodeRecord}
@@ -7,29 +7,47 @@ use Rattle.sx_view.specs.Records.{RecordMap}
 use Rattle.sx_model.specs.Hash.{local_hash}
 use Rattle.sx_model.specs.Tree.{Node, Forest, tree_then, beside, size}
 use Rattle.sx_model.specs.Records.{NodeRow, at_top, rows}
-use Rattle.sx_model.specs.Holes.{Frame, plug}
+use Rattle.sx_model.specs.Holes.{Frame, Shown, plug, shown}
+use Rattle.sx_edit.specs.Holes.{before_own, behind_own, own_row}
 use Rattle.sx_edit.specs.Told.{Moment, Shows}
 
--- the number of each path, while the records tell none
-abbrev pub no_path : List Step → ℕ
-no_path path = 0
+-- the rows of a document, by the numbers of its paths
+abbrev pub rows_in : (List Step → ℕ) → Forest → List (ℕ × NodeRow)
+rows_in number trees = rows local_hash number at_top trees
 
--- the rows of a document
-abbrev pub rows_in : Forest → List (ℕ × NodeRow)
-rows_in trees = rows local_hash no_path at_top trees
+-- where a node stands: in a hole, between trees, above others
+pub record Standing : Type 0 where
+  pub frames : List Frame
+  pub before : Forest
+  pub node : Node
+  pub below : Forest
+  pub behind : Forest
 
--- The records showed trees with the node, and they now show them where it has this kind and label. Each node above it was got
--- once.
-unfoldable pub IsRelabeled : ℕ → Kind → List ℕ → Moment → Moment → Type 0
-IsRelabeled k kind label old new =
-    (frames : List Frame) (before : Forest) (n : Node) (below behind : Forest) → n.number ≡ k
-    → Shows old.told (rows_in (plug frames (beside before (tree_then n below behind))))
-    → Shows new.told (rows_in (plug frames (beside before (tree_then (record { number = n.number; kind = kind; label = label }) below behind))))
-    × (new.gets ≤ old.gets + length frames)
+abbrev pub trees_around : Standing → Forest
+trees_around at = plug at.frames (beside at.before (tree_then at.node at.below at.behind))
+
+-- the same place with a node of this kind and label
+abbrev pub labeled : Standing → Kind → List ℕ → Standing
+labeled at kind label = record at { node = record { number = at.node.number; kind = kind; label = label } }
+
+-- the rows of all trees, where the node's path has this number, and these are the rows of what is below it
+abbrev pub rows_with : (List Step → ℕ) → Standing → ℕ → List (ℕ × NodeRow) → List (ℕ × NodeRow)
+rows_with number at path inner =
+    let a : Shown = shown local_hash (beside at.before (tree_then at.node at.below at.behind)) in
+    before_own local_hash number at.frames a at.before at.node.number
+    ++ (at.node.number, record (own_row local_hash number at.frames at.before at.node at.below at.behind) { path = path })
+    ∷ (inner ++ behind_own local_hash number at.frames a at.node.number at.behind)
+
+-- The records showed trees with the node, and they now show them where it has this kind and label, and the number of this path,
+-- whatever rows are below it. Each node above it was got once.
+unfoldable pub IsRelabeled : ℕ → Kind → List ℕ → ℕ → Moment → Moment → Type 0
+IsRelabeled k kind label path old new =
+    (number : List Step → ℕ) (at : Standing) (was : ℕ) (inner : List (ℕ × NodeRow)) → at.node.number ≡ k
+    → Shows old.told (rows_with number at was inner)
+    → Shows new.told (rows_with number (labeled at kind label) path inner) × (new.gets ≤ old.gets + length at.frames)
 
 -- the records show no trees with the node, which have at most so many nodes
 unfoldable pub CannotRelabel : ℕ → ℕ → Option (RecordMap NodeRecord) → Type 0
 CannotRelabel k limit o =
-    (frames : List Frame) (before : Forest) (n : Node) (below behind : Forest) → n.number ≡ k
-    → size (plug frames (beside before (tree_then n below behind))) ≤ limit
-    → Shows o (rows_in (plug frames (beside before (tree_then n below behind)))) → ⊥
+    (number : List Step → ℕ) (at : Standing) (was : ℕ) (inner : List (ℕ × NodeRow)) → at.node.number ≡ k
+    → size (trees_around at) ≤ limit → Shows o (rows_with number at was inner) → ⊥

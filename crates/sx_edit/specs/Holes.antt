@@ -4,9 +4,9 @@ use Rattle.std.specs.List.{list_any}
 use Rattle.std.specs.Ordering.{nat_cmp, eq_by_cmp}
 use Rattle.sx_tree.specs.declared.record.Kind.{Kind}
 use Rattle.sx_tree.specs.declared.record.Step.{Step}
-use Rattle.sx_model.specs.Tree.{numbers}
-use Rattle.sx_model.specs.Records.{NodeRow, rows}
-use Rattle.sx_model.specs.Holes.{Frame, Shown, around_hole, shown_by, frame_row, rows_before, rows_behind}
+use Rattle.sx_model.specs.Tree.{Node, Forest, numbers}
+use Rattle.sx_model.specs.Records.{NodeRow, first_of, last_of, rows}
+use Rattle.sx_model.specs.Holes.{Frame, Shown, around_hole, row_over, shown, shown_by, frame_row, rows_before, rows_behind}
 
 -- the numbers in preorder, up to the hole
 abbrev pub numbers_before : List Frame → List ℕ
@@ -56,3 +56,16 @@ module _ (local : Kind → List ℕ → ℕ) (number : List Step → ℕ) where
       rows local number (record (around_hole frames) { right = Some frame.node.number }) frame.before
       ++ (frame.node.number, frame_row local number frames frame inside)
       ∷ (hole ++ rows local number (record (around_hole frames) { left = Some frame.node.number }) frame.behind)
+
+  -- the row of a node among trees in the hole
+  abbrev pub own_row : List Frame → Forest → Node → Forest → Forest → NodeRow
+  own_row frames before n below behind =
+      row_over local number (record (around_hole frames) { left = last_of before; right = first_of behind }) n (shown local below)
+
+  -- the rows before the node's own
+  abbrev pub before_own : List Frame → Shown → Forest → ℕ → List (ℕ × NodeRow)
+  before_own frames a before k = rows_before local number frames a ++ rows local number (record (around_hole frames) { right = Some k }) before
+
+  -- the rows behind those of the trees below it
+  abbrev pub behind_own : List Frame → Shown → ℕ → Forest → List (ℕ × NodeRow)
+  behind_own frames a k behind = rows local number (record (around_hole frames) { left = Some k }) behind ++ rows_behind local number frames a

@@ -8,7 +8,9 @@ pub mod Grow
 pub mod Holes
 pub mod Mend
 pub mod Names
+pub mod Pathways
 pub mod Places
+pub mod Repath
 pub mod Room
 pub mod Told
 pub mod Steps

@@ -1,14 +1,15 @@
 -- What a tree that takes the place of another does to what stands around it.
-use Rattle.std.specs.Prelude.{◌≡◌, ℕ, ◌+◌, ◌-◌, ◌^◌, ◌<◌, ◌≤◌, List, ◌∷◌, ◌++◌, Option, None, Some}
+use Rattle.std.specs.Prelude.{◌≡◌, true, ℕ, ◌+◌, ◌-◌, ◌^◌, ◌<◌, ◌≤◌, List, ◌∷◌, ◌++◌, Option, None, Some}
 use Rattle.std.specs.Option.{option_or}
 use Rattle.sx_tree.specs.declared.record.Kind.{Kind}
 use Rattle.sx_tree.specs.declared.record.Step.{Step}
 use Rattle.sx_tree.specs.declared.record.NodeRecord.{NodeRecord}
 use Rattle.sx_view.specs.Records.{RecordMap}
-use Rattle.sx_model.specs.Tree.{Forest, beside, size}
-use Rattle.sx_model.specs.Records.{NodeRow, Around, at_top, around_children, first_of, last_of, rows}
+use Rattle.sx_model.specs.Tree.{Forest, beside, is_value, size}
+use Rattle.sx_model.specs.Records.{NodeRow, PathRow, Around, at_top, around_children, first_of, last_of, rows}
 use Rattle.sx_model.specs.Holes.{Frame, Shown, plug, shown, around_hole, rows_before, rows_behind}
-use Rattle.sx_edit.specs.Told.{Shows}
+use Rattle.sx_edit.specs.Pathways.{HasAll, IsPathAt, Kept, Lists, ListsSome, Numbers, more_on, own_of, paths_under}
+use Rattle.sx_edit.specs.Told.{Piece, Shows}
 use Rattle.sx_edit.specs.declared.trees.Gap.{Gap}
 use Rattle.sx_edit.specs.declared.trees.Tree.{Tree}
 
@@ -91,3 +92,25 @@ IsTakenOut k first limit before after =
     (local : Kind → List ℕ → ℕ) (number : List Step → ℕ) (around : Around) (below : Forest) (w : NodeRow) (xs ys : List (ℕ × NodeRow))
     → first_of below ≡ first → around.right ≡ None → size below ≤ limit
     → Shows before (xs ++ (k, w) ∷ (rows local number around below ++ ys)) → Shows after (xs ++ ys)
+
+-- The records show a node, and these trees below it, by the numbers of the listed paths.
+pub record ShowsBelow (o : Option (RecordMap NodeRecord)) (k : ℕ) (first : Option ℕ) (limit : ℕ) (listed : List (List Step)) (piece : Piece) : Type 0 where
+  pub local : Kind → List ℕ → ℕ
+  pub number : List Step → ℕ
+  pub own : NodeRow
+  pub front : List (ℕ × NodeRow)
+  pub back : List (ℕ × NodeRow)
+  pub first_is : first_of piece.1 ≡ first
+  pub last : piece.0.right ≡ None
+  pub few : size piece.1 ≤ limit
+  pub shows : Shows o (front ++ (k, own) ∷ (rows local number piece.0 piece.1 ++ back))
+  pub numbers_are : Numbers number listed
+  pub listed_are : HasAll listed (paths_under piece.0 piece.1)
+
+-- The values of the node, whose record this is, and of the trees below it, are no longer counted. Where there is no table afterwards,
+-- there were no such trees.
+unfoldable pub IsLeftOut : ℕ → NodeRecord → ℕ → Kept → Option (List PathRow) → Type 0
+IsLeftOut k entry limit before after =
+    (listed : List (List Step)) (count : List Step → ℕ) (steps : List Step) (piece : Piece) → ShowsBelow before.told k entry.first limit listed piece
+    → (is_value entry.kind ≡ true → IsPathAt listed steps entry.path)
+    → Lists before.table listed (more_on (own_of entry.kind steps ++ paths_under piece.0 piece.1) count) → ListsSome after listed count

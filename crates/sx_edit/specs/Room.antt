@@ -46,8 +46,10 @@ Passes refusal (Err OutOfMemory) = Unit {0}
 
 -- the records show trees of so many nodes at most, with these in a hole below a node of this number
 pub record IsSite (parent limit : ℕ) (o : Option (RecordMap NodeRecord)) (frames : List Frame) (frame : Frame) (inside : Forest) : Type 0 where
+  -- the numbers of paths
+  pub paths : List Step → ℕ
   pub number : frame.node.number ≡ parent
-  pub shows : Shows o (rows_in (plug (frame ∷ frames) inside))
+  pub shows : Shows o (rows_in paths (plug (frame ∷ frames) inside))
   pub few : size (plug (frame ∷ frames) inside) ≤ limit
   pub fit : FitBelow None (plug (frame ∷ frames) inside)
 

@@ -10,8 +10,9 @@ use Rattle.sx_tree.specs.declared.record.NodeRecord.{NodeRecord}
 use Rattle.sx_view.specs.Records.{RecordMap}
 use Rattle.sx_view.specs.Rows.{row_of}
 use Rattle.sx_model.specs.Tree.{Forest, size}
-use Rattle.sx_model.specs.Records.{NodeRow, Around, first_of, rows}
+use Rattle.sx_model.specs.Records.{NodeRow, PathRow, Around, first_of, rows}
 use Rattle.sx_model.specs.Holes.{Frame, Shown}
+use Rattle.sx_edit.specs.Pathways.{HasAll, Kept, Lists, ListsSome, Numbers, more_on, paths_under}
 use Rattle.sx_edit.specs.Holes.{AreNew, above, IsShift, IsAlike, top_shown, whole}
 
 -- the records are told, and show these rows and no others
@@ -65,6 +66,30 @@ IsCleared tops limit before after =
     (local : Kind → List ℕ → ℕ) (number : List Step → ℕ) (pieces : List Piece) (xs ys : List (ℕ × NodeRow))
     → BeginWith pieces tops → sizes pieces ≤ limit
     → Shows before (xs ++ (piece_rows local number pieces ++ ys)) → Shows after (xs ++ ys)
+
+-- the paths of the value nodes of pieces
+abbrev pub piece_paths : List Piece → List (List Step)
+piece_paths [] = []
+piece_paths (piece ∷ pieces) = paths_under piece.0 piece.1 ++ piece_paths pieces
+
+-- The records show these pieces among other rows, by the numbers of the listed paths, and each of their paths is listed.
+pub record ShowsPieces (o : Option (RecordMap NodeRecord)) (tops : List ℕ) (limit : ℕ) (listed : List (List Step)) (pieces : List Piece) : Type 0 where
+  pub local : Kind → List ℕ → ℕ
+  pub number : List Step → ℕ
+  pub front : List (ℕ × NodeRow)
+  pub back : List (ℕ × NodeRow)
+  pub begin : BeginWith pieces tops
+  pub few : sizes pieces ≤ limit
+  pub shows : Shows o (front ++ (piece_rows local number pieces ++ back))
+  pub numbers_are : Numbers number listed
+  pub listed_are : HasAll listed (piece_paths pieces)
+
+-- The values of the trees that begin with these numbers are no longer counted, where they have so many nodes at most. Where there is
+-- no table afterwards, there were no such trees.
+unfoldable pub IsDiscounted : List ℕ → ℕ → Kept → Option (List PathRow) → Type 0
+IsDiscounted tops limit before after =
+    (listed : List (List Step)) (count : List Step → ℕ) (pieces : List Piece) → ShowsPieces before.told tops limit listed pieces
+    → Lists before.table listed (more_on (piece_paths pieces) count) → ListsSome after listed count
 
 -- ---- the walk along the ancestors
 

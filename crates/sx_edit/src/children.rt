@@ -59,10 +59,13 @@ fn first_or(first: Option<u32>, number: u32) -> Option<u32>
     }
 }
 
-/// The record of a node with these children, but for its links to its parent and its siblings.
-pub(crate) fn top_over(label: Label, children: Children) -> NodeRecord
-    ensures { (n : Node) → (below : Forest) → n.kind ≡ label.kind → n.label ≡ label.text → IsKept children (shown local_hash below)
-        → row_of result ≡ top_row n below }
+/// The record of a node with these children, on the path of this number, but for its links to its parent and its
+/// siblings.
+pub(crate) fn top_over(label: Label, children: Children, path: u32) -> NodeRecord
+    requires { path < 2 ^ 30 }
+    ensures { (n : Node) → (below : Forest) → n.kind ≡ label.kind → n.label ≡ label.text
+        → IsKept children (shown local_hash below)
+        → row_of result ≡ top_row path n below }
 {
     let own = local(label.kind, label.text.as_bytes());
     NodeRecord {
@@ -75,7 +78,7 @@ pub(crate) fn top_over(label: Label, children: Children) -> NodeRecord
         children: children.count,
         descendants: children.nodes,
         hash: own.wrapping_add(children.hash.wrapping_mul(257)),
-        path: 0,
+        path,
         label: label.text,
     }
 }

@@ -1,71 +1,96 @@
 //! Values that come into a gap among siblings.
-ghost use Rattle.std.specs.Prelude.{◌≡◌, ◌+◌, ◌<◌, ◌≤◌, ◌^◌, None, IfErr, IfOk, OnOk};
+ghost use Rattle.std.specs.Prelude.{◌≡◌, ◌+◌, ◌<◌, ◌≤◌, ◌^◌, ℕ, IfErr, IfOk, OnOk};
 ghost use Rattle.std.specs.Option.{option_copied};
 ghost use Rattle.sx_outside.specs.Faults.{Rose};
+ghost use Rattle.sx_tree.specs.Value as plain;
 ghost use Rattle.sx_tree.specs.Value.{value_of};
 ghost use Rattle.sx_view.specs.Rows.{row_of};
-ghost use Rattle.sx_model.specs.Edit.{entering};
-ghost use Rattle.sx_model.specs.Tree.{no_trees};
-ghost use Rattle.sx_edit.specs.Damage.{Explains, IsDamaged};
-ghost use Rattle.sx_edit.specs.Fill.{IsFilled, entering_below, entering_nodes, entering_top};
-ghost use Rattle.sx_edit.specs.Grow.{IsAdded, child_rows, top_row};
+ghost use Rattle.sx_edit.specs.EditFault.{ExplainsEdit, IsBreachEdit};
+ghost use Rattle.sx_edit.specs.Fill.{IsFilled, StopsFilling, entering_below, entering_nodes, entering_paths, entering_rows, entering_top, enters};
+ghost use Rattle.sx_edit.specs.Grow.{IsGrown, StopsGrowing, top_row};
+ghost use Rattle.sx_edit.specs.Pathways.{kept};
 ghost use Rattle.sx_edit.specs.Steps.{GoesOn};
 
+use crate::fault::EditFault;
 use crate::grow::{grow, key_over, link};
 use crate::mend::mend;
 use crate::reads::add;
 use crate::trees::{Gap, Tree};
-use std::alloc::{AllocError, Global};
+use std::alloc::Global;
+use sx_paths::PathTable;
 use sx_tree::json::Json;
 use sx_tree::record::NodeRecord;
 use sx_tree::text::Text;
-use sx_view::{Fault, RecordsMut};
+use sx_view::RecordsMut;
 
-/// Writes all records below the top of what comes in: of the value, or of a new Key over it where there is a name. Gives the record of the
-/// top, but for its links to its parent and its siblings.
+/// Writes all records below the top of what comes in: of the value, or of a new Key over it where there is a name,
+/// and counts its values. Gives the record of the top, but for its links to its parent and its siblings.
 fn enter<N: RecordsMut<NodeRecord>>(
     alloc: Global,
     nodes: &mut N,
+    paths: &mut PathTable,
+    had: u32,
     next: u32,
     name: Option<&Text>,
     value: &Json,
-) -> Result<NodeRecord, AllocError>
-    requires { next + entering_nodes (option_copied name) (value_of value.now) ≤ 2 ^ 30 }
-    ensures top { IfOk result (λ top. row_of top ≡ top_row (entering_top (option_copied name.entry) (value_of value.now) next)
+    path: u32,
+) -> Result<NodeRecord, EditFault>
+    requires room { next + entering_nodes (option_copied name) (value_of value.now) ≤ 2 ^ 30 }
+    requires path_fits { path < 2 ^ 30 }
+    ensures top { IfOk result (λ top. row_of top ≡ top_row path
+        (entering_top (option_copied name.entry) (value_of value.now) next)
         (entering_below (option_copied name.entry) (value_of value.now) next)) }
-    ensures added { OnOk result (IsAdded (child_rows next None (entering_below (option_copied name.entry) (value_of value.now) next))
-        (N.told nodes.old) (N.told nodes.new)) }
+    ensures grown { OnOk result (IsGrown (entering_paths (option_copied name.entry) (value_of value.now) next)
+        (entering_rows (option_copied name.entry) (value_of value.now) next) path
+        (kept (N.told nodes.old) paths.old.paths) (kept (N.told nodes.new) paths.new.paths)) }
+    ensures stops { IfErr result (StopsGrowing (entering_paths (option_copied name.entry) (value_of value.now) next)
+        path (plain.nodes (value_of value.now)) had paths.old.paths) }
+    ensures fault { (next : ℕ) → IfErr result (IsBreachEdit next) }
+    ensures same_mark { paths.new.marked ≡ paths.old.marked }
     ensures goes_on { GoesOn N.told N.faults N.has_mark N.marks nodes.old nodes.new }
 {
     match name {
-        None => grow(alloc, nodes, value, next),
+        None => grow(alloc, nodes, paths, had, value, next, path),
         Some(name) => {
-            let top = grow(alloc, nodes, value, next + 1)?;
-            key_over(alloc, nodes, next, name, top)
+            let top = grow(alloc, nodes, paths, had, value, next + 1, path)?;
+            Ok(key_over(alloc, nodes, next, name, top)?)
         }
     }
 }
 
-/// Puts the value, under a name below a new Key, into the gap, where the records of the old tree are gone, with the next numbers.
+/// Puts the value, under a name below a new Key, into the gap, where the records of the old tree are gone, with the
+/// next numbers. The path of the value is there. There were `had` paths before the edit.
+///
+/// # Errors
+///
+/// `Refused(PathsSpent)` where there is no room for a path; `Damaged` where a record, a path or a count is not as it
+/// must be; `Failed`; `OutOfMemory`.
 pub(crate) fn fill<N: RecordsMut<NodeRecord>>(
     alloc: Global,
     nodes: &mut N,
+    paths: &mut PathTable,
+    had: u32,
     next: u32,
     gap: Gap,
     old: Option<Tree>,
     name: Option<&Text>,
     value: &Json,
-) -> Result<(), Fault>
+    path: u32,
+) -> Result<(), EditFault>
     requires parent_fits { gap.parent < 2 ^ 30 }
     requires room { next + entering_nodes (option_copied name) (value_of value.now) ≤ 2 ^ 30 }
-    ensures done { OnOk result (IsFilled next gap old (entering (option_copied name.entry) (value_of value.now) next no_trees)
-        (N.told nodes.old) (N.told nodes.new)) }
-    ensures cannot { IfErr result (λ fault. IsDamaged fault
-        → IsFilled next gap old (entering (option_copied name.entry) (value_of value.now) next no_trees) (N.told nodes.old) None) }
+    requires path_fits { path < 2 ^ 30 }
+    ensures done { OnOk result (IsFilled next gap old (enters (option_copied name.entry) (value_of value.now) path had)
+        (kept (N.told nodes.old) paths.old.paths) (kept (N.told nodes.new) paths.new.paths)) }
+    ensures stops { IfErr result (StopsFilling next gap old
+        (enters (option_copied name.entry) (value_of value.now) path had)
+        (kept (N.told nodes.old) paths.old.paths)) }
+    ensures same_mark { paths.new.marked ≡ paths.old.marked }
     ensures goes_on { GoesOn N.told N.faults N.has_mark N.marks nodes.old nodes.new }
-    ensures fault { IfErr result (Explains next (N.told nodes.old) (Rose (N.faults nodes.old) (N.faults nodes.new))) }
+    ensures fault { IfErr result (ExplainsEdit next (N.told nodes.old)
+        (Rose (N.faults nodes.old) (N.faults nodes.new))) }
 {
-    let top = enter(alloc, nodes, next, name, value)?;
+    let top = enter(alloc, nodes, paths, had, next, name, value, path)?;
     let tree = Tree {
         number: next,
         nodes: top.descendants + 1,
@@ -77,5 +102,5 @@ pub(crate) fn fill<N: RecordsMut<NodeRecord>>(
         next,
         link(top, gap.parent, gap.left, gap.right),
     )?;
-    mend(alloc, nodes, next, gap, old, Some(tree))
+    Ok(mend(alloc, nodes, next, gap, old, Some(tree))?)
 }

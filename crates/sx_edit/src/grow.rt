@@ -1,5 +1,5 @@
 //! Trees of values, written below their top.
-ghost use Rattle.std.specs.Prelude.{◌≡◌, ◌+◌, ◌<◌, ◌≤◌, ◌^◌, None, [], ◌∷◌, suc, true, IfOk, OnOk};
+ghost use Rattle.std.specs.Prelude.{◌≡◌, ◌+◌, ◌<◌, ◌≤◌, ◌^◌, ℕ, None, [], ◌∷◌, suc, true, IfErr, IfOk, OnOk};
 ghost use Rattle.sx_tree.specs.Record.{IsLink};
 ghost use Rattle.sx_view.specs.Rows.{row_of};
 ghost use Rattle.sx_tree.specs.Value as plain;
@@ -7,16 +7,22 @@ ghost use Rattle.sx_tree.specs.Value.{value_of, values_of, fields_of, nodes_of_v
 ghost use Rattle.sx_model.specs.Hash.{local_hash};
 ghost use Rattle.sx_model.specs.Holes.{shown};
 ghost use Rattle.sx_model.specs.Numbered.{numbered_values, numbered_fields};
-ghost use Rattle.sx_edit.specs.Grow.{IsAdded, IsKept, IsOneMore, IsKeyOver, child_rows, linked, only_if, top_of, top_row, trees_below};
+ghost use Rattle.sx_edit.specs.EditFault.{IsBreachEdit};
+ghost use Rattle.sx_edit.specs.Grow.{IsAdded, IsGrown, IsKept, IsOneMore, IsKeyOver, StopsGrowing, array_node, linked, object_node, only_if};
+ghost use Rattle.sx_edit.specs.Grow.{paths_under_node, rows_under_node, top_of, top_row, trees_below, value_paths};
+ghost use Rattle.sx_edit.specs.Pathways.{kept};
 ghost use Rattle.sx_edit.specs.Steps.{GoesOn};
 
 use crate::children::{no_children, one_more, top_over};
+use crate::fault::EditFault;
 use crate::label::{Label, empty_text, scalar_label};
+use crate::paths::{count_in, name_step, step_onto};
 use crate::reads::add;
 use crate::trees::Children;
 use std::alloc::{AllocError, Global};
+use sx_paths::PathTable;
 use sx_tree::json::{Json, Members};
-use sx_tree::record::{Kind, NodeRecord};
+use sx_tree::record::{Kind, NodeRecord, Step};
 use sx_tree::text::Text;
 use sx_view::RecordsMut;
 
@@ -56,7 +62,8 @@ fn asked(more: bool, number: u32) -> Option<u32>
     if more { Some(number) } else { None }
 }
 
-/// Puts the child of this record, below which all records are there, behind the children of the parent, where more may follow.
+/// Puts the child of this record, below which all records are there, behind the children of the parent, where more
+/// may follow.
 fn hang<N: RecordsMut<NodeRecord>>(
     alloc: Global,
     nodes: &mut N,
@@ -68,7 +75,8 @@ fn hang<N: RecordsMut<NodeRecord>>(
     requires few { children.count ≤ children.nodes }
     requires room { parent + 1 + children.nodes + (child.descendants + 1) ≤ 2 ^ 30 }
     requires beyond { more ≡ true → parent + 1 + children.nodes + (child.descendants + 1) < 2 ^ 30 }
-    ensures children { IfOk result (λ new. IsOneMore children new (parent + 1 + children.nodes) child.descendants child.hash) }
+    ensures children { IfOk result (λ new. IsOneMore children new
+        (parent + 1 + children.nodes) child.descendants child.hash) }
     ensures added { OnOk result (IsAdded ((
       parent + 1 + children.nodes,
       linked parent children.last
@@ -88,75 +96,120 @@ fn hang<N: RecordsMut<NodeRecord>>(
     Ok(after)
 }
 
-/// Writes all records below the top of the value's tree, which gets this number, and the next ones in preorder. Gives the record of the top,
-/// but for its links to its parent and its siblings.
+/// Writes all records below the top of the value's tree, which gets this number, and the next ones in preorder, and
+/// counts its values. Gives the record of the top, but for its links to its parent and its siblings. The value's path
+/// is there. There were `had` paths before the edit.
+///
+/// # Errors
+///
+/// `Refused(PathsSpent)` where there is no room for a path; `Damaged` where a path or a count is not as it must be;
+/// `OutOfMemory`.
 #[cycle(grow)]
 pub(crate) fn grow<N: RecordsMut<NodeRecord>>(
     alloc: Global,
     nodes: &mut N,
+    paths: &mut PathTable,
+    had: u32,
     value: &Json,
     number: u32,
-) -> Result<NodeRecord, AllocError>
-    requires { number + plain.nodes (value_of value.now) ≤ 2 ^ 30 }
-    ensures top { IfOk result (λ top. row_of top ≡ top_row (top_of (value_of value.now) number) (trees_below (value_of value.now) number)) }
-    ensures added { OnOk result (IsAdded (child_rows number None (trees_below (value_of value.now) number)) (N.told nodes.old) (N.told nodes.new)) }
+    path: u32,
+) -> Result<NodeRecord, EditFault>
+    requires room { number + plain.nodes (value_of value.now) ≤ 2 ^ 30 }
+    requires path_fits { path < 2 ^ 30 }
+    ensures top { IfOk result (λ top. row_of top ≡ top_row path (top_of (value_of value.now) number)
+        (trees_below (value_of value.now) number)) }
+    ensures grown { OnOk result (IsGrown (value_paths (value_of value.now) number)
+        (rows_under_node (top_of (value_of value.now) number) (trees_below (value_of value.now) number)) path
+        (kept (N.told nodes.old) paths.old.paths) (kept (N.told nodes.new) paths.new.paths)) }
+    ensures stops { IfErr result (StopsGrowing (value_paths (value_of value.now) number) path
+        (plain.nodes (value_of value.now)) had paths.old.paths) }
+    ensures fault { (next : ℕ) → IfErr result (IsBreachEdit next) }
+    ensures same_mark { paths.new.marked ≡ paths.old.marked }
     ensures goes_on { GoesOn N.told N.faults N.has_mark N.marks nodes.old nodes.new }
 {
+    count_in(paths, number, path)?;
     match value {
         Json::Scalar(scalar) => {
             let label = scalar_label(alloc, scalar)?;
-            Ok(top_over(label, no_children()))
+            Ok(top_over(label, no_children(), path))
         }
         Json::Array(items) => {
-            let below = grow_items(alloc, nodes, items.as_slice(), number)?;
+            let below = grow_items(alloc, nodes, paths, had, items.as_slice(), number, path)?;
             let text = empty_text(alloc)?;
             let kind = Kind::Array;
-            Ok(top_over(Label { kind, text }, below))
+            Ok(top_over(Label { kind, text }, below, path))
         }
         Json::Object(members) => {
-            let below = grow_members(alloc, nodes, members, number)?;
+            let below = grow_members(alloc, nodes, paths, had, members, number, path)?;
             let text = empty_text(alloc)?;
             let kind = Kind::Object;
-            Ok(top_over(Label { kind, text }, below))
+            Ok(top_over(Label { kind, text }, below, path))
         }
     }
 }
 
-/// Writes the trees of the values below the parent, and gives what it keeps of them.
+/// Writes the trees of the values below the parent, whose path has this number, and gives what it keeps of them.
 #[cycle(grow)]
 fn grow_items<N: RecordsMut<NodeRecord>>(
     alloc: Global,
     nodes: &mut N,
+    paths: &mut PathTable,
+    had: u32,
     values: &[Json],
     parent: u32,
-) -> Result<Children, AllocError>
-    requires { parent + 1 + nodes_of_values (values_of values.now) ≤ 2 ^ 30 }
-    ensures kept { IfOk result (λ kept. IsKept kept (shown local_hash (numbered_values (values_of values.now) (suc parent)))) }
-    ensures added { OnOk result (IsAdded (child_rows parent None (numbered_values (values_of values.now) (suc parent)))
-        (N.told nodes.old) (N.told nodes.new)) }
+    path: u32,
+) -> Result<Children, EditFault>
+    requires room { parent + 1 + nodes_of_values (values_of values.now) ≤ 2 ^ 30 }
+    requires path_fits { path < 2 ^ 30 }
+    ensures children { IfOk result (λ children. IsKept children
+        (shown local_hash (numbered_values (values_of values.now) (suc parent)))) }
+    ensures grown { OnOk result (IsGrown (paths_under_node (array_node parent)
+        (numbered_values (values_of values.now) (suc parent)))
+        (rows_under_node (array_node parent) (numbered_values (values_of values.now) (suc parent))) path
+        (kept (N.told nodes.old) paths.old.paths) (kept (N.told nodes.new) paths.new.paths)) }
+    ensures stops { IfErr result (StopsGrowing
+        (paths_under_node (array_node parent) (numbered_values (values_of values.now) (suc parent)))
+        path (nodes_of_values (values_of values.now)) had paths.old.paths) }
+    ensures fault { (next : ℕ) → IfErr result (IsBreachEdit next) }
+    ensures same_mark { paths.new.marked ≡ paths.old.marked }
     ensures goes_on { GoesOn N.told N.faults N.has_mark N.marks nodes.old nodes.new }
 {
     let mut children = no_children();
     for (place, value) in values.iter().enumerate() {
-        let top = grow(alloc, nodes, value, parent + 1 + children.nodes)?;
+        let number = parent + 1 + children.nodes;
+        let on = step_onto(alloc, paths, had, number, path, Step::Item)?;
+        let top = grow(alloc, nodes, paths, had, value, number, on)?;
         let more = place + 1 < values.len();
         children = hang(alloc, nodes, parent, children, top, more)?;
     }
     Ok(children)
 }
 
-/// Writes the Keys of the members below the parent with their values, and gives what it keeps of them.
+/// Writes the Keys of the members below the parent, whose path has this number, with their values, and gives what it
+/// keeps of them.
 #[cycle(grow)]
 fn grow_members<N: RecordsMut<NodeRecord>>(
     alloc: Global,
     nodes: &mut N,
+    paths: &mut PathTable,
+    had: u32,
     members: &Members,
     parent: u32,
-) -> Result<Children, AllocError>
-    requires { parent + 1 + nodes_of_fields (fields_of members.now) ≤ 2 ^ 30 }
-    ensures kept { IfOk result (λ kept. IsKept kept (shown local_hash (numbered_fields (fields_of members.now) (suc parent)))) }
-    ensures added { OnOk result (IsAdded (child_rows parent None (numbered_fields (fields_of members.now) (suc parent)))
-        (N.told nodes.old) (N.told nodes.new)) }
+    path: u32,
+) -> Result<Children, EditFault>
+    requires room { parent + 1 + nodes_of_fields (fields_of members.now) ≤ 2 ^ 30 }
+    requires path_fits { path < 2 ^ 30 }
+    ensures children { IfOk result (λ children. IsKept children
+        (shown local_hash (numbered_fields (fields_of members.now) (suc parent)))) }
+    ensures grown { OnOk result (IsGrown (paths_under_node (object_node parent)
+        (numbered_fields (fields_of members.now) (suc parent)))
+        (rows_under_node (object_node parent) (numbered_fields (fields_of members.now) (suc parent))) path
+        (kept (N.told nodes.old) paths.old.paths) (kept (N.told nodes.new) paths.new.paths)) }
+    ensures stops { IfErr result (StopsGrowing
+        (paths_under_node (object_node parent) (numbered_fields (fields_of members.now) (suc parent)))
+        path (nodes_of_fields (fields_of members.now)) had paths.old.paths) }
+    ensures fault { (next : ℕ) → IfErr result (IsBreachEdit next) }
+    ensures same_mark { paths.new.marked ≡ paths.old.marked }
     ensures goes_on { GoesOn N.told N.faults N.has_mark N.marks nodes.old nodes.new }
 {
     let names = members.names();
@@ -165,7 +218,9 @@ fn grow_members<N: RecordsMut<NodeRecord>>(
     for (place, value) in values.iter().enumerate() {
         let name = &names[place];
         let number = parent + 1 + children.nodes;
-        let top = grow(alloc, nodes, value, number + 1)?;
+        let step = name_step(alloc, name)?;
+        let on = step_onto(alloc, paths, had, number, path, step)?;
+        let top = grow(alloc, nodes, paths, had, value, number + 1, on)?;
         let key = key_over(alloc, nodes, number, name, top)?;
         let more = place + 1 < values.len();
         children = hang(alloc, nodes, parent, children, key, more)?;
@@ -173,8 +228,8 @@ fn grow_members<N: RecordsMut<NodeRecord>>(
     Ok(children)
 }
 
-/// Puts the value of this record, below which all records are there, below the Key of this number. Gives the record of the Key, but for its
-/// links to its parent and its siblings.
+/// Puts the value of this record, below which all records are there, below the Key of this number. Gives the record
+/// of the Key, but for its links to its parent and its siblings. A Key stands on the path of its value.
 pub(crate) fn key_over<N: RecordsMut<NodeRecord>>(
     alloc: Global,
     nodes: &mut N,
@@ -184,11 +239,13 @@ pub(crate) fn key_over<N: RecordsMut<NodeRecord>>(
 ) -> Result<NodeRecord, AllocError>
     requires { number + (value.descendants + 2) ≤ 2 ^ 30 }
     ensures key { IfOk result (IsKeyOver number name.now (row_of value)) }
-    ensures added { OnOk result (IsAdded ((number + 1, linked number None None (row_of value)) ∷ []) (N.told nodes.old) (N.told nodes.new)) }
+    ensures added { OnOk result (IsAdded ((number + 1, linked number None None (row_of value)) ∷ [])
+        (N.told nodes.old) (N.told nodes.new)) }
     ensures goes_on { GoesOn N.told N.faults N.has_mark N.marks nodes.old nodes.new }
 {
+    let path = value.path;
     let below = hang(alloc, nodes, number, no_children(), value, false)?;
     let text = name.copy(alloc)?;
     let kind = Kind::Key;
-    Ok(top_over(Label { kind, text }, below))
+    Ok(top_over(Label { kind, text }, below, path))
 }

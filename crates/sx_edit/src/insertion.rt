@@ -1,5 +1,5 @@
 //! A value that comes to a place.
-ghost use Rattle.std.specs.Prelude.{◌≡◌, ◌+◌, ◌≤◌, ◌^◌, ◌&&◌, not, Some, None, is_none, is_some, if◌then◌else◌, IfErr, IfOk, IfNone};
+ghost use Rattle.std.specs.Prelude.{◌≡◌, ◌+◌, ◌-◌, ◌<◌, ◌≤◌, ◌^◌, ◌&&◌, ℕ, not, Some, None, is_none, is_some, length, min, if◌then◌else◌, IfErr, IfOk, IfNone};
 ghost use Rattle.std.specs.Option.{option_copied, option_or};
 ghost use Rattle.sx_outside.specs.Faults.{Rose};
 ghost use Rattle.sx_tree.specs.Value.{value_of};
@@ -8,21 +8,24 @@ ghost use Rattle.sx_model.specs.Edit as model;
 ghost use Rattle.sx_model.specs.Tree as tree;
 ghost use Rattle.sx_edit.specs.Answers.{AnswersEach};
 ghost use Rattle.sx_edit.specs.Damage.{Explains, IsDamaged};
-ghost use Rattle.sx_edit.specs.EditFault.{ExplainsEdit};
-ghost use Rattle.sx_edit.specs.Places.{ChecksChildren, FindsTaken};
+ghost use Rattle.sx_edit.specs.EditFault.{ExplainsEdit, IsBreachEdit};
+ghost use Rattle.sx_edit.specs.Pathways.{IsOnto, StopsOnto, kept};
+ghost use Rattle.sx_edit.specs.Places.{ChecksChildren, FindsTaken, step_into};
 ghost use Rattle.sx_edit.specs.Steps.{GoesOn};
 
 use crate::fault::EditFault;
 use crate::fill::fill;
 use crate::kinds::{is_document, is_object};
 use crate::names::find_key;
+use crate::paths::{name_step, step_onto};
 use crate::places::target_of;
 use crate::room::make_room;
 use crate::trees::Target;
-use std::alloc::Global;
+use std::alloc::{AllocError, Global};
+use sx_paths::PathTable;
 use sx_tree::edit::{EditRefusal, Edited, Place};
 use sx_tree::json::Json;
-use sx_tree::record::NodeRecord;
+use sx_tree::record::{Kind, NodeRecord, Step};
 use sx_tree::text::Text;
 use sx_view::{Fault, RecordsMut};
 
@@ -34,8 +37,10 @@ fn taken_name<N: RecordsMut<NodeRecord>>(
     target: Target,
     name: Option<&Text>,
 ) -> Result<Option<u32>, Fault>
-    ensures found { IfOk result (λ found. FindsTaken next target (option_copied name.entry) (N.told nodes.old) (Some found)) }
-    ensures cannot { IfErr result (λ fault. IsDamaged fault → FindsTaken next target (option_copied name.entry) (N.told nodes.old) None) }
+    ensures found { IfOk result (λ found. FindsTaken next target (option_copied name.entry) (N.told nodes.old)
+        (Some found)) }
+    ensures cannot { IfErr result (λ fault. IsDamaged fault
+        → FindsTaken next target (option_copied name.entry) (N.told nodes.old) None) }
     ensures same { N.told nodes.new ≡ N.told nodes.old }
     ensures goes_on { GoesOn N.told N.faults N.has_mark N.marks nodes.old nodes.new }
     ensures fault { IfErr result (Explains next (N.told nodes.old) (Rose (N.faults nodes.old) (N.faults nodes.new))) }
@@ -75,7 +80,8 @@ fn check_children<N: RecordsMut<NodeRecord>>(
     ensures checks { ChecksChildren next target (option_copied name.entry) (N.told nodes.old) result }
     ensures same { N.told nodes.new ≡ N.told nodes.old }
     ensures goes_on { GoesOn N.told N.faults N.has_mark N.marks nodes.old nodes.new }
-    ensures fault { IfErr result (ExplainsEdit next (N.told nodes.old) (Rose (N.faults nodes.old) (N.faults nodes.new))) }
+    ensures fault { IfErr result (ExplainsEdit next (N.told nodes.old)
+        (Rose (N.faults nodes.old) (N.faults nodes.new))) }
 {
     if let Some(node) = taken_name(alloc, nodes, next, target, name)? {
         return Err(EditFault::Refused(EditRefusal::NameTaken { node }));
@@ -106,19 +112,60 @@ fn new_keys(in_object: bool) -> u32
     if in_object { 1 } else { 0 }
 }
 
-/// The value comes to the place, among the members of an object below a new Key of the name. On a fault the records may be half changed.
+/// The number of the path of what comes below a node of this kind and path, for a new node.
+fn path_into(
+    alloc: Global,
+    paths: &mut PathTable,
+    had: u32,
+    node: u32,
+    target: Target,
+    name: Option<&Text>,
+) -> Result<u32, EditFault>
+    ensures onto { IfOk result (λ number. IsOnto target.path
+        (step_into target.kind (option_copied name.entry)) number paths.old.paths paths.new.paths) }
+    ensures fits { IfOk result (λ number. number < 2 ^ 30) }
+    ensures stops { IfErr result (StopsOnto target.path
+        (step_into target.kind (option_copied name.entry)) had paths.old.paths) }
+    ensures same_mark { paths.new.marked ≡ paths.old.marked }
+    ensures fault { (next : ℕ) → IfErr result (IsBreachEdit next) }
+{
+    let step = step_below(alloc, target.kind, name)?;
+    step_onto(alloc, paths, had, node, target.path, step)
+}
+
+/// The step to what comes below a node of this kind, under the name where there is one.
+fn step_below(alloc: Global, kind: Kind, name: Option<&Text>) -> Result<Step, AllocError>
+    ensures { IfOk result (λ step. step ≡ step_into kind (option_copied name.entry)) }
+{
+    if is_document(kind) {
+        return Ok(Step::Top);
+    }
+    match name {
+        Some(name) => name_step(alloc, name),
+        None => Ok(Step::Item),
+    }
+}
+
+/// The value comes to the place, among the members of an object below a new Key of the name. On a fault the records
+/// may be half changed.
 pub(crate) fn insert<N: RecordsMut<NodeRecord>>(
     alloc: Global,
     nodes: &mut N,
+    paths: &mut PathTable,
+    had: u32,
     next: u32,
     place: Place,
     name: Option<&Text>,
     value: &Json,
 ) -> Result<Edited, EditFault>
-    requires { next ≤ 2 ^ 30 }
-    ensures answers { AnswersEach (model.insert place (option_copied name.entry) (value_of value.now)) next (N.told nodes.old) (N.told nodes.new) result }
+    requires few { next ≤ 2 ^ 30 }
+    requires had { had ≡ min (length paths.old.paths) (2 ^ 32 - 1) }
+    ensures answers { AnswersEach (model.insert place (option_copied name.entry) (value_of value.now)) next
+        (kept (N.told nodes.old) paths.old.paths) (kept (N.told nodes.new) paths.new.paths) result }
+    ensures same_mark { paths.new.marked ≡ paths.old.marked }
     ensures goes_on { GoesOn N.told N.faults N.has_mark N.marks nodes.old nodes.new }
-    ensures fault { IfErr result (ExplainsEdit next (N.told nodes.old) (Rose (N.faults nodes.old) (N.faults nodes.new))) }
+    ensures fault { IfErr result (ExplainsEdit next (N.told nodes.old)
+        (Rose (N.faults nodes.old) (N.faults nodes.new))) }
 {
     let target = target_of(alloc, nodes, next, place)?;
     check_children(alloc, nodes, next, target, name)?;
@@ -134,7 +181,10 @@ pub(crate) fn insert<N: RecordsMut<NodeRecord>>(
     if let Some(refusal) = name_refusal(in_object, name) {
         return Err(EditFault::Refused(refusal));
     }
-    fill(alloc, nodes, next, target.gap, None, name, value)?;
+    let path = path_into(alloc, paths, had, next, target, name)?;
+    fill(
+        alloc, nodes, paths, had, next, target.gap, None, name, value, path,
+    )?;
     Ok(Edited {
         first: Some(next),
         next: next + more,

@@ -45,7 +45,8 @@ pub(crate) fn lift<N: RecordsMut<NodeRecord>>(
 ) -> Result<(), Fault>
     ensures done { OnOk result (IsLifted node shift.plus shift.minus shift.hash
         (moment_of N.told N.gets nodes.old) (moment_of N.told N.gets nodes.new)) }
-    ensures cannot { IfErr result (λ fault. IsDamaged fault → CannotLift node shift.plus shift.minus next (N.told nodes.old)) }
+    ensures cannot { IfErr result (λ fault. IsDamaged fault
+        → CannotLift node shift.plus shift.minus next (N.told nodes.old)) }
     ensures goes_on { GoesOn N.told N.faults N.has_mark N.marks nodes.old nodes.new }
     ensures fault { IfErr result (Explains next (N.told nodes.old) (Rose (N.faults nodes.old) (N.faults nodes.new))) }
 {

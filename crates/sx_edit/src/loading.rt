@@ -1,5 +1,5 @@
 //! A value that becomes the document's child.
-ghost use Rattle.std.specs.Prelude.{◌≡◌, ◌≤◌, ◌^◌, ℕ, None, IfErr, IfOk, option_and_then};
+ghost use Rattle.std.specs.Prelude.{◌≡◌, ◌-◌, ◌≤◌, ◌^◌, ℕ, None, IfErr, IfOk, length, min, option_and_then};
 ghost use Rattle.std.specs.Option.{ForSome};
 ghost use Rattle.std.specs.FinMap as map;
 ghost use Rattle.sx_outside.specs.Faults.{Rose};
@@ -8,6 +8,7 @@ ghost use Rattle.sx_model.specs.Edit as model;
 ghost use Rattle.sx_edit.specs.Answers.{AnswersEach};
 ghost use Rattle.sx_edit.specs.Damage.{Explains, IsDamaged};
 ghost use Rattle.sx_edit.specs.EditFault.{ExplainsEdit};
+ghost use Rattle.sx_edit.specs.Pathways.{kept};
 ghost use Rattle.sx_edit.specs.Steps.{GoesOn};
 
 use crate::fault::EditFault;
@@ -15,6 +16,7 @@ use crate::insertion::insert;
 use crate::reads::read;
 use crate::replacement::replace;
 use std::alloc::Global;
+use sx_paths::PathTable;
 use sx_tree::edit::{Edited, Place};
 use sx_tree::json::Json;
 use sx_tree::record::NodeRecord;
@@ -28,10 +30,12 @@ fn document_child<N: RecordsMut<NodeRecord>>(
     alloc: Global,
     nodes: &mut N,
 ) -> Result<Option<u32>, Fault>
-    ensures child { IfOk result (λ child. ForSome (N.told nodes.old) (λ records. child ≡ option_and_then (λ r. r.first) (map.get records 0))) }
+    ensures child { IfOk result (λ child. ForSome (N.told nodes.old)
+        (λ records. child ≡ option_and_then (λ r. r.first) (map.get records 0))) }
     ensures same { N.told nodes.new ≡ N.told nodes.old }
     ensures goes_on { GoesOn N.told N.faults N.has_mark N.marks nodes.old nodes.new }
-    ensures fault { (next : ℕ) → IfErr result (Explains next (N.told nodes.old) (Rose (N.faults nodes.old) (N.faults nodes.new))) }
+    ensures fault { (next : ℕ) → IfErr result
+        (Explains next (N.told nodes.old) (Rose (N.faults nodes.old) (N.faults nodes.new))) }
     ensures untold { IfErr result (λ fault. IsDamaged fault → N.told nodes.old ≡ None) }
 {
     match read(alloc, nodes, DOCUMENT)? {
@@ -40,20 +44,36 @@ fn document_child<N: RecordsMut<NodeRecord>>(
     }
 }
 
-/// The value takes the place of the document's child, or becomes its child. On a fault the records may be half changed.
+/// The value takes the place of the document's child, or becomes its child. On a fault the records may be half
+/// changed.
 pub(crate) fn load<N: RecordsMut<NodeRecord>>(
     alloc: Global,
     nodes: &mut N,
+    paths: &mut PathTable,
+    had: u32,
     next: u32,
     value: &Json,
 ) -> Result<Edited, EditFault>
-    requires { next ≤ 2 ^ 30 }
-    ensures answers { AnswersEach (model.load (value_of value.now)) next (N.told nodes.old) (N.told nodes.new) result }
+    requires few { next ≤ 2 ^ 30 }
+    requires had { had ≡ min (length paths.old.paths) (2 ^ 32 - 1) }
+    ensures answers { AnswersEach (model.load (value_of value.now)) next (kept (N.told nodes.old) paths.old.paths)
+        (kept (N.told nodes.new) paths.new.paths) result }
+    ensures same_mark { paths.new.marked ≡ paths.old.marked }
     ensures goes_on { GoesOn N.told N.faults N.has_mark N.marks nodes.old nodes.new }
-    ensures fault { IfErr result (ExplainsEdit next (N.told nodes.old) (Rose (N.faults nodes.old) (N.faults nodes.new))) }
+    ensures fault { IfErr result (ExplainsEdit next (N.told nodes.old)
+        (Rose (N.faults nodes.old) (N.faults nodes.new))) }
 {
     match document_child(alloc, nodes)? {
-        Some(child) => replace(alloc, nodes, next, child, value),
-        None => insert(alloc, nodes, next, Place::Last(DOCUMENT), None, value),
+        Some(child) => replace(alloc, nodes, paths, had, next, child, value),
+        None => insert(
+            alloc,
+            nodes,
+            paths,
+            had,
+            next,
+            Place::Last(DOCUMENT),
+            None,
+            value,
+        ),
     }
 }

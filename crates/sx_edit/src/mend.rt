@@ -25,7 +25,8 @@ fn link_right<N: RecordsMut<NodeRecord>>(
     right: Option<u32>,
 ) -> Result<(), Fault>
     requires { IsLink right }
-    ensures done { OnOk result (IsChanged node (λ w. record w { right = right }) (N.told nodes.old) (N.told nodes.new)) }
+    ensures done { OnOk result (IsChanged node (λ w. record w { right = right }) (N.told nodes.old)
+        (N.told nodes.new)) }
     ensures cannot { IfErr result (λ fault. IsDamaged fault → IsChanged node (λ w. record w { right = right })
         (N.told nodes.old) None) }
     ensures goes_on { GoesOn N.told N.faults N.has_mark N.marks nodes.old nodes.new }
@@ -93,7 +94,8 @@ fn adopt<N: RecordsMut<NodeRecord>>(
     write(alloc, nodes, gap.parent, entry)
 }
 
-/// The child at an end of a list: the other one where none stands on this side of the gap, else the one that was there.
+/// The child at an end of a list: the other one where none stands on this side of the gap, else the one that was
+/// there.
 fn end_of(side: Option<u32>, other: Option<u32>, was: Option<u32>) -> Option<u32>
     requires other_fits { IsLink other }
     requires was_fits { IsLink was }
@@ -141,8 +143,8 @@ fn shift_of(old: Option<Tree>, new: Option<Tree>) -> Shift
     }
 }
 
-/// Puts right what stands around the gap, where the records of the old tree are gone and those of the new one there: the links of
-/// the neighbours, the parent's children, and along the ancestors the number of nodes and the hash.
+/// Puts right what stands around the gap, where the records of the old tree are gone and those of the new one there:
+/// the links of the neighbours, the parent's children, and along the ancestors the number of nodes and the hash.
 pub(crate) fn mend<N: RecordsMut<NodeRecord>>(
     alloc: Global,
     nodes: &mut N,

@@ -20,7 +20,8 @@ fn is_named(entry: &NodeRecord, node: u32, name: &Text, except: Option<u32>) -> 
     except != Some(node) && is_key(entry.kind) && entry.label.as_bytes() == name.as_bytes()
 }
 
-/// The first key of the name among the children of the parent, from this one on to the right, but for one that may be left out.
+/// The first key of the name among the children of the parent, from this one on to the right, but for one that may be
+/// left out.
 pub(crate) fn find_key<N: RecordsMut<NodeRecord>>(
     alloc: Global,
     nodes: &mut N,
@@ -31,7 +32,8 @@ pub(crate) fn find_key<N: RecordsMut<NodeRecord>>(
     except: Option<u32>,
 ) -> Result<Option<u32>, Fault>
     ensures found { IfOk result (λ found. FindsKey except name.now first next (N.told nodes.old) (Some found)) }
-    ensures cannot { IfErr result (λ fault. IsDamaged fault → FindsKey except name.now first next (N.told nodes.old) None) }
+    ensures cannot { IfErr result (λ fault. IsDamaged fault
+        → FindsKey except name.now first next (N.told nodes.old) None) }
     ensures same { N.told nodes.new ≡ N.told nodes.old }
     ensures goes_on { GoesOn N.told N.faults N.has_mark N.marks nodes.old nodes.new }
     ensures fault { IfErr result (Explains next (N.told nodes.old) (Rose (N.faults nodes.old) (N.faults nodes.new))) }

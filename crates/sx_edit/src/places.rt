@@ -71,7 +71,8 @@ fn below<N: RecordsMut<NodeRecord>>(
     ensures none { IfErr result (IsNoPlace (place_below last node) next (N.told nodes.old)) }
     ensures same { N.told nodes.new ≡ N.told nodes.old }
     ensures goes_on { GoesOn N.told N.faults N.has_mark N.marks nodes.old nodes.new }
-    ensures fault { IfErr result (ExplainsEdit next (N.told nodes.old) (Rose (N.faults nodes.old) (N.faults nodes.new))) }
+    ensures fault { IfErr result (ExplainsEdit next (N.told nodes.old)
+        (Rose (N.faults nodes.old) (N.faults nodes.new))) }
 {
     if node >= next {
         return Err(EditFault::Refused(EditRefusal::NoNode { node }));
@@ -86,6 +87,7 @@ fn below<N: RecordsMut<NodeRecord>>(
     Ok(Target {
         gap: gap_below(node, &entry, last),
         kind,
+        path: entry.path,
         first: entry.first,
     })
 }
@@ -104,7 +106,8 @@ fn beside<N: RecordsMut<NodeRecord>>(
     ensures none { IfErr result (IsNoPlace (place_beside after node) next (N.told nodes.old)) }
     ensures same { N.told nodes.new ≡ N.told nodes.old }
     ensures goes_on { GoesOn N.told N.faults N.has_mark N.marks nodes.old nodes.new }
-    ensures fault { IfErr result (ExplainsEdit next (N.told nodes.old) (Rose (N.faults nodes.old) (N.faults nodes.new))) }
+    ensures fault { IfErr result (ExplainsEdit next (N.told nodes.old)
+        (Rose (N.faults nodes.old) (N.faults nodes.new))) }
 {
     if node >= next {
         return Err(EditFault::Refused(EditRefusal::NoNode { node }));
@@ -123,6 +126,7 @@ fn beside<N: RecordsMut<NodeRecord>>(
     Ok(Target {
         gap: gap_beside(parent, node, &entry, after),
         kind: above.kind,
+        path: above.path,
         first: above.first,
     })
 }
@@ -140,7 +144,8 @@ pub(crate) fn target_of<N: RecordsMut<NodeRecord>>(
     ensures none { IfErr result (IsNoPlace place next (N.told nodes.old)) }
     ensures same { N.told nodes.new ≡ N.told nodes.old }
     ensures goes_on { GoesOn N.told N.faults N.has_mark N.marks nodes.old nodes.new }
-    ensures fault { IfErr result (ExplainsEdit next (N.told nodes.old) (Rose (N.faults nodes.old) (N.faults nodes.new))) }
+    ensures fault { IfErr result (ExplainsEdit next (N.told nodes.old)
+        (Rose (N.faults nodes.old) (N.faults nodes.new))) }
 {
     match place {
         Place::First(node) => below(alloc, nodes, next, node, false),

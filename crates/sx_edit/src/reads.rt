@@ -44,7 +44,8 @@ pub(crate) fn read_linked<N: RecordsMut<NodeRecord>>(
     ensures gets { N.gets nodes.new ≤ N.gets nodes.old + 1 }
     ensures fault { (next : ℕ) → IfErr result (Explains next (N.told nodes.old) (Rose (N.faults nodes.old)
         (N.faults nodes.new))) }
-    ensures absent { IfErr result (λ fault. IsDamaged fault → ForSome (N.told nodes.old) (λ records. map.get records to ≡ None)) }
+    ensures absent { IfErr result (λ fault. IsDamaged fault
+        → ForSome (N.told nodes.old) (λ records. map.get records to ≡ None)) }
 {
     match read(alloc, nodes, to)? {
         Some(record) => Ok(record),
@@ -59,7 +60,8 @@ pub(crate) fn write<N: RecordsMut<NodeRecord>>(
     node: u32,
     entry: NodeRecord,
 ) -> Result<(), Fault>
-    ensures ok { OnOk result (N.told nodes.new ≡ option_map (λ records. map.insert records node entry) (N.told nodes.old)) }
+    ensures ok { OnOk result (N.told nodes.new ≡ option_map (λ records. map.insert records node entry)
+        (N.told nodes.old)) }
     ensures same_gets { N.gets nodes.new ≡ N.gets nodes.old }
     ensures goes_on { GoesOn N.told N.faults N.has_mark N.marks nodes.old nodes.new }
     ensures fault { IfErr result (λ fault. fault ≡ OutOfMemory) }

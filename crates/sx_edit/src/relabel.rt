@@ -1,5 +1,5 @@
-//! Another kind and label of a node.
-ghost use Rattle.std.specs.Prelude.{◌≡◌, Some, IfErr, OnOk};
+//! Another kind, label and path of a node.
+ghost use Rattle.std.specs.Prelude.{◌≡◌, ◌<◌, ◌^◌, Some, IfErr, OnOk};
 ghost use Rattle.std.specs.Option.{ForSome};
 ghost use Rattle.std.specs.FinMap as map;
 ghost use Rattle.sx_outside.specs.Faults.{Rose};
@@ -16,7 +16,8 @@ use sx_hash::local;
 use sx_tree::record::NodeRecord;
 use sx_view::{Fault, RecordsMut};
 
-/// Gives the node, whose record this is, another kind and label, and adapts the hashes above it.
+/// Gives the node, whose record this is, another kind and label, and the path of this number, and adapts the hashes
+/// above it.
 pub(crate) fn relabel<N: RecordsMut<NodeRecord>>(
     alloc: Global,
     nodes: &mut N,
@@ -24,9 +25,11 @@ pub(crate) fn relabel<N: RecordsMut<NodeRecord>>(
     node: u32,
     entry: NodeRecord,
     label: Label,
+    path: u32,
 ) -> Result<(), Fault>
-    requires { ForSome (N.told nodes.old) (λ records. map.get records node ≡ Some entry) }
-    ensures done { OnOk result (IsRelabeled node label.kind label.text (moment_of N.told N.gets nodes.old)
+    requires there { ForSome (N.told nodes.old) (λ records. map.get records node ≡ Some entry) }
+    requires path_fits { path < 2 ^ 30 }
+    ensures done { OnOk result (IsRelabeled node label.kind label.text path (moment_of N.told N.gets nodes.old)
         (moment_of N.told N.gets nodes.new)) }
     ensures cannot { IfErr result (λ fault. IsDamaged fault → CannotRelabel node next (N.told nodes.old)) }
     ensures goes_on { GoesOn N.told N.faults N.has_mark N.marks nodes.old nodes.new }
@@ -46,7 +49,7 @@ pub(crate) fn relabel<N: RecordsMut<NodeRecord>>(
         children: entry.children,
         descendants: entry.descendants,
         hash: entry.hash.wrapping_add(more),
-        path: entry.path,
+        path,
         label: label.text,
     };
     write(alloc, nodes, node, changed)?;

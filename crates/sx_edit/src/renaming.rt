@@ -1,18 +1,23 @@
 //! Another name of a key.
-ghost use Rattle.std.specs.Prelude.{IfErr};
+ghost use Rattle.std.specs.Prelude.{◌≡◌, ◌-◌, ◌≤◌, ◌^◌, IfErr, length, min};
 ghost use Rattle.sx_outside.specs.Faults.{Rose};
 ghost use Rattle.sx_model.specs.Edit as model;
 ghost use Rattle.sx_edit.specs.Answers.{AnswersEach};
 ghost use Rattle.sx_edit.specs.EditFault.{ExplainsEdit};
+ghost use Rattle.sx_edit.specs.Pathways.{kept};
 ghost use Rattle.sx_edit.specs.Steps.{GoesOn};
 
 use crate::fault::EditFault;
 use crate::kinds::is_key;
 use crate::label::Label;
 use crate::names::find_key;
+use crate::paths::{name_step, step_onto};
 use crate::reads::{parent_of, read, read_linked};
 use crate::relabel::relabel;
+use crate::repath::repath;
+use crate::trees::Over;
 use std::alloc::Global;
+use sx_paths::PathTable;
 use sx_tree::edit::{EditRefusal, Edited};
 use sx_tree::record::{Kind, NodeRecord};
 use sx_tree::text::Text;
@@ -22,13 +27,20 @@ use sx_view::RecordsMut;
 pub(crate) fn rename<N: RecordsMut<NodeRecord>>(
     alloc: Global,
     nodes: &mut N,
+    paths: &mut PathTable,
+    had: u32,
     next: u32,
     node: u32,
     name: &Text,
 ) -> Result<Edited, EditFault>
-    ensures answers { AnswersEach (model.rename node name.now) next (N.told nodes.old) (N.told nodes.new) result }
+    requires few { next ≤ 2 ^ 30 }
+    requires had { had ≡ min (length paths.old.paths) (2 ^ 32 - 1) }
+    ensures answers { AnswersEach (model.rename node name.now) next (kept (N.told nodes.old) paths.old.paths)
+        (kept (N.told nodes.new) paths.new.paths) result }
+    ensures same_mark { paths.new.marked ≡ paths.old.marked }
     ensures goes_on { GoesOn N.told N.faults N.has_mark N.marks nodes.old nodes.new }
-    ensures fault { IfErr result (ExplainsEdit next (N.told nodes.old) (Rose (N.faults nodes.old) (N.faults nodes.new))) }
+    ensures fault { IfErr result (ExplainsEdit next (N.told nodes.old)
+        (Rose (N.faults nodes.old) (N.faults nodes.new))) }
 {
     let Some(entry) = read(alloc, nodes, node)? else {
         return Err(EditFault::Refused(EditRefusal::NoNode { node }));
@@ -44,11 +56,13 @@ pub(crate) fn rename<N: RecordsMut<NodeRecord>>(
     if let Some(taken) = find_key(alloc, nodes, next, parent, above.first, name, Some(node))? {
         return Err(EditFault::Refused(EditRefusal::NameTaken { node: taken }));
     }
+    let step = name_step(alloc, name)?;
+    let path = step_onto(alloc, paths, had, node, above.path, step)?;
     let text = name.copy(alloc)?;
-    let label = Label {
-        kind: Kind::Key,
-        text,
-    };
-    relabel(alloc, nodes, next, node, entry, label)?;
+    let kind = Kind::Key;
+    let first = entry.first;
+    relabel(alloc, nodes, next, node, entry, Label { kind, text }, path)?;
+    let over = Over { node, kind, path };
+    repath(alloc, nodes, paths, had, next, over, first)?;
     Ok(Edited { first: None, next })
 }

@@ -1,10 +1,11 @@
 //! A value in the place of a node with all below it.
-ghost use Rattle.std.specs.Prelude.{◌≡◌, ◌≤◌, ◌^◌, IfErr};
+ghost use Rattle.std.specs.Prelude.{◌≡◌, ◌-◌, ◌≤◌, ◌^◌, IfErr, length, min};
 ghost use Rattle.sx_outside.specs.Faults.{Rose};
 ghost use Rattle.sx_tree.specs.Value.{value_of};
 ghost use Rattle.sx_model.specs.Edit as model;
 ghost use Rattle.sx_edit.specs.Answers.{AnswersEach};
 ghost use Rattle.sx_edit.specs.EditFault.{ExplainsEdit};
+ghost use Rattle.sx_edit.specs.Pathways.{kept};
 ghost use Rattle.sx_edit.specs.Steps.{GoesOn};
 
 use crate::fault::EditFault;
@@ -15,6 +16,7 @@ use crate::removal::{take_out, tree_of};
 use crate::room::make_room;
 use crate::trees::Gap;
 use std::alloc::Global;
+use sx_paths::PathTable;
 use sx_tree::edit::{EditRefusal, Edited};
 use sx_tree::json::Json;
 use sx_tree::record::NodeRecord;
@@ -24,14 +26,21 @@ use sx_view::RecordsMut;
 pub(crate) fn replace<N: RecordsMut<NodeRecord>>(
     alloc: Global,
     nodes: &mut N,
+    paths: &mut PathTable,
+    had: u32,
     next: u32,
     node: u32,
     value: &Json,
 ) -> Result<Edited, EditFault>
-    requires { next ≤ 2 ^ 30 }
-    ensures answers { AnswersEach (model.replace node (value_of value.now)) next (N.told nodes.old) (N.told nodes.new) result }
+    requires few { next ≤ 2 ^ 30 }
+    requires had { had ≡ min (length paths.old.paths) (2 ^ 32 - 1) }
+    ensures answers { AnswersEach (model.replace node (value_of value.now)) next
+        (kept (N.told nodes.old) paths.old.paths)
+        (kept (N.told nodes.new) paths.new.paths) result }
+    ensures same_mark { paths.new.marked ≡ paths.old.marked }
     ensures goes_on { GoesOn N.told N.faults N.has_mark N.marks nodes.old nodes.new }
-    ensures fault { IfErr result (ExplainsEdit next (N.told nodes.old) (Rose (N.faults nodes.old) (N.faults nodes.new))) }
+    ensures fault { IfErr result (ExplainsEdit next (N.told nodes.old)
+        (Rose (N.faults nodes.old) (N.faults nodes.new))) }
 {
     let Some(entry) = read(alloc, nodes, node)? else {
         return Err(EditFault::Refused(EditRefusal::NoNode { node }));
@@ -45,13 +54,25 @@ pub(crate) fn replace<N: RecordsMut<NodeRecord>>(
     let parent = parent_of(node, &entry)?;
     let more = make_room(alloc, nodes, next, parent, 0, value)?;
     let tree = tree_of(node, &entry)?;
-    take_out(alloc, nodes, next, node, &entry)?;
+    let path = entry.path;
+    take_out(alloc, nodes, paths, next, node, &entry)?;
     let gap = Gap {
         parent,
         left: entry.left,
         right: entry.right,
     };
-    fill(alloc, nodes, next, gap, Some(tree), None, value)?;
+    fill(
+        alloc,
+        nodes,
+        paths,
+        had,
+        next,
+        gap,
+        Some(tree),
+        None,
+        value,
+        path,
+    )?;
     Ok(Edited {
         first: Some(next),
         next: next + more,

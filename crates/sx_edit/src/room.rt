@@ -69,12 +69,14 @@ pub(crate) fn make_room<N: RecordsMut<NodeRecord>>(
     value: &Json,
 ) -> Result<u32, EditFault>
     requires { next ≤ 2 ^ 30 }
-    ensures room { MakesRoom next parent (value_of value.now) (names + plain.nodes (value_of value.now)) (N.told nodes.old) result }
+    ensures room { MakesRoom next parent (value_of value.now) (names + plain.nodes (value_of value.now))
+        (N.told nodes.old) result }
     ensures count { IfOk result (λ more. more ≡ names + plain.nodes (value_of value.now)) }
     ensures enough { IfOk result (λ more. next + (names + plain.nodes (value_of value.now)) ≤ 2 ^ 30) }
     ensures same { N.told nodes.new ≡ N.told nodes.old }
     ensures goes_on { GoesOn N.told N.faults N.has_mark N.marks nodes.old nodes.new }
-    ensures fault { IfErr result (ExplainsEdit next (N.told nodes.old) (Rose (N.faults nodes.old) (N.faults nodes.new))) }
+    ensures fault { IfErr result (ExplainsEdit next (N.told nodes.old)
+        (Rose (N.faults nodes.old) (N.faults nodes.new))) }
 {
     let around = levels_from(alloc, nodes, next, parent, Some(parent))?;
     if let Some(refusal) = too_deep(around, value) {

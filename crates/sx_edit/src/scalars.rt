@@ -1,9 +1,11 @@
 //! Another scalar in a scalar's place.
-ghost use Rattle.std.specs.Prelude.{◌≡◌, IfErr, OnOk};
+ghost use Rattle.std.specs.Prelude.{◌≡◌, List, IfErr, OnOk};
 ghost use Rattle.sx_outside.specs.Faults.{Rose};
 ghost use Rattle.sx_model.specs.Edit as model;
+ghost use Rattle.sx_model.specs.Records.{PathRow};
 ghost use Rattle.sx_edit.specs.Answers.{AnswersEach, GetsFew};
 ghost use Rattle.sx_edit.specs.EditFault.{ExplainsEdit};
+ghost use Rattle.sx_edit.specs.Pathways.{kept};
 ghost use Rattle.sx_edit.specs.Steps.{GoesOn};
 
 use crate::fault::EditFault;
@@ -25,10 +27,13 @@ pub(crate) fn set_scalar<N: RecordsMut<NodeRecord>>(
     node: u32,
     value: &Scalar,
 ) -> Result<Edited, EditFault>
-    ensures answers { AnswersEach (model.set_scalar node value.now) next (N.told nodes.old) (N.told nodes.new) result }
+    ensures answers { (table : List PathRow)
+        → AnswersEach (model.set_scalar node value.now) next (kept (N.told nodes.old) table)
+        (kept (N.told nodes.new) table) result }
     ensures gets { OnOk result (GetsFew node next (N.told nodes.old) (N.gets nodes.old) (N.gets nodes.new)) }
     ensures goes_on { GoesOn N.told N.faults N.has_mark N.marks nodes.old nodes.new }
-    ensures fault { IfErr result (ExplainsEdit next (N.told nodes.old) (Rose (N.faults nodes.old) (N.faults nodes.new))) }
+    ensures fault { IfErr result (ExplainsEdit next (N.told nodes.old)
+        (Rose (N.faults nodes.old) (N.faults nodes.new))) }
 {
     let Some(entry) = read(alloc, nodes, node)? else {
         return Err(EditFault::Refused(EditRefusal::NoNode { node }));
@@ -40,6 +45,7 @@ pub(crate) fn set_scalar<N: RecordsMut<NodeRecord>>(
         }));
     }
     let label = scalar_label(alloc, value)?;
-    relabel(alloc, nodes, next, node, entry, label)?;
+    let path = entry.path;
+    relabel(alloc, nodes, next, node, entry, label, path)?;
     Ok(Edited { first: None, next })
 }

@@ -48,7 +48,27 @@ pub(crate) struct Target {
     pub(crate) gap: Gap,
     /// The kind of the node above.
     pub(crate) kind: Kind,
+    /// The number of the path of the node above.
+    pub(crate) path: u32,
     /// The first child of the node above.
     pub(crate) first: Option<u32>,
     ghost first_fits: { IsLink first },
+    ghost path_fits: { path < 2 ^ 30 },
+}
+
+/// A node, with its kind and the number of its new path.
+#[derive(Clone, Copy)]
+pub(crate) struct Over {
+    pub(crate) node: u32,
+    pub(crate) kind: Kind,
+    pub(crate) path: u32,
+    ghost path_fits: { path < 2 ^ 30 },
+}
+
+/// A link to a child of the node, which is still on its old path.
+#[derive(Clone, Copy)]
+pub(crate) struct Move {
+    pub(crate) over: Over,
+    pub(crate) from: u32,
+    pub(crate) to: u32,
 }

@@ -1,7 +1,8 @@
-use Rattle.std.proofs.Common.{◌+◌, suc, length, nat_lt, take}
+use Rattle.std.proofs.Common.{◌≡◌, ◌+◌, suc, length, nat_lt, take}
 use Rattle.sx_tree.specs.Value.{values_of, fields_of}
 use Rattle.sx_model.specs.Numbered.{numbered_values, numbered_fields}
-use Rattle.sx_edit.specs.Grow.{only_if}
+use Rattle.sx_edit.specs.Grow.{array_node, object_node, only_if}
+use Rattle.sx_edit.specs.Pathways.{kept}
 use Rattle.sx_edit.specs.Steps.{GoesOn}
 use Rattle.sx_edit.proofs.Growing.{IsHung}
 use Rattle.sx_edit.proofs.grow.+grow.Given as goal
@@ -11,8 +12,9 @@ abbrev pub invariant-grow_items-loop-place : goal.invariant-grow_items-loop-plac
 invariant-grow_items-loop-place g l =
     let told = g.N.Records.told in
     record {
-      hung : IsHung l.parent (only_if (nat_lt l.place (length l.values)) (l.parent + 1 + l.children.nodes)) l.children
-          (numbered_values (values_of (take l.place l.values)) (suc l.parent)) (told l.initial.nodes) (told l.nodes);
+      hung : IsHung (array_node l.parent) l.path (only_if (nat_lt l.place (length l.values)) (l.parent + 1 + l.children.nodes)) l.children
+          (numbered_values (values_of (take l.place l.values)) (suc l.parent)) (kept (told l.initial.nodes) l.initial.paths.paths) (kept (told l.nodes) l.paths.paths);
+      same_mark : l.paths.marked ≡ l.initial.paths.marked;
       goes_on : GoesOn told g.N.Records.faults g.N.RecordsMut.has_mark g.N.RecordsMut.marks l.initial.nodes l.nodes;
     }
 
@@ -20,7 +22,8 @@ abbrev pub invariant-grow_members-loop-place : goal.invariant-grow_members-loop-
 invariant-grow_members-loop-place g l =
     let told = g.N.Records.told in
     record {
-      hung : IsHung l.parent (only_if (nat_lt l.place (length l.members)) (l.parent + 1 + l.children.nodes)) l.children
-          (numbered_fields (fields_of (take l.place l.members)) (suc l.parent)) (told l.initial.nodes) (told l.nodes);
+      hung : IsHung (object_node l.parent) l.path (only_if (nat_lt l.place (length l.members)) (l.parent + 1 + l.children.nodes)) l.children
+          (numbered_fields (fields_of (take l.place l.members)) (suc l.parent)) (kept (told l.initial.nodes) l.initial.paths.paths) (kept (told l.nodes) l.paths.paths);
+      same_mark : l.paths.marked ≡ l.initial.paths.marked;
       goes_on : GoesOn told g.N.Records.faults g.N.RecordsMut.has_mark g.N.RecordsMut.marks l.initial.nodes l.nodes;
     }

@@ -15,8 +15,8 @@ returns-in_err-child-clause-fault g c =
 
 pub returns-in-Some-clause-answers : goal.returns-in-Some-clause-answers
 returns-in-Some-clause-answers g c =
-    load-replaces (value_of c.args.value.now) _ _ _ c.in_ok-child.ensures.child _ _ _ c.replace.result c.in_ok-child.ensures.same c.in-Some.is c.replace.ensures.answers
+    load-replaces (value_of c.args.value.now) _ _ _ c.in_ok-child.ensures.child _ _ _ _ c.replace.result c.in_ok-child.ensures.same c.in-Some.is c.replace.ensures.answers
 
 pub returns-in-None-clause-answers : goal.returns-in-None-clause-answers
 returns-in-None-clause-answers g c =
-    load-inserts (value_of c.args.value.now) _ _ _ c.in_ok-child.ensures.child _ _ c.insert.result c.in_ok-child.ensures.same c.in-None.is c.insert.ensures.answers
+    load-inserts (value_of c.args.value.now) _ _ _ c.in_ok-child.ensures.child _ _ _ c.insert.result c.in_ok-child.ensures.same c.in-None.is c.insert.ensures.answers

@@ -24,4 +24,4 @@ returns-then-has_no_places-clause-none g c = below-wrong _ _ c.in-Some.entry _ (
 pub returns-clause-place : goal.returns-clause-place
 returns-clause-place g c =
     below-place _ _ c.in-Some.entry _ (λ m e. sym (c.in_ok-entry.ensures.found m e) ∙ c.in-Some.is) _ _ (cc)
-    (record { parent = c.gap_below.ensures.parent; left = c.gap_below.ensures.left; right = c.gap_below.ensures.right; kind = refl; first = refl })
+    (record { parent = c.gap_below.ensures.parent; left = c.gap_below.ensures.left; right = c.gap_below.ensures.right; kind = refl; first = refl; path = refl })

@@ -42,4 +42,4 @@ pub returns-clause-place : goal.returns-clause-place
 returns-clause-place g c =
     beside-place _ _ c.in-Some.entry _ (λ m e. sym (c.in_ok-entry.ensures.found m e) ∙ c.in-Some.is) _ _ c.in_ok-above.above _ c.in-Some-parent.is
     (moved-there _ _ _ _ c.in_ok-entry.ensures.same c.in_ok-above.ensures.found) (cc)
-    (record { parent_is = c.gap_beside.ensures.parent; left = c.gap_beside.ensures.left; right = c.gap_beside.ensures.right; kind = refl; first = refl })
+    (record { parent_is = c.gap_beside.ensures.parent; left = c.gap_beside.ensures.left; right = c.gap_beside.ensures.right; kind = refl; first = refl; path = refl })

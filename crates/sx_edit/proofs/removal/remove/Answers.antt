@@ -1,9 +1,8 @@
-use Rattle.std.proofs.Common.{None, ◌∙◌, refl, sym}
+use Rattle.std.proofs.Common.{◌∙◌, refl, sym}
 use Rattle.sx_edit.specs.Answers.{AnswersEach}
 use Rattle.sx_edit.proofs.Going.{goes_itself}
-use Rattle.sx_edit.proofs.Answering.{err-answers, err-explains_edit, breach-explains_edit, untold-no_state, no-node}
-use Rattle.sx_edit.proofs.Mending.{mended-untold}
-use Rattle.sx_edit.proofs.Splicing.{countable, moved-there, parented, remove-cannot, remove-done, remove-top, remove-value}
+use Rattle.sx_edit.proofs.Answering.{err-answers, err-answers_kept, err-explains_edit, breach-explains_edit, untold-no_state, no-node}
+use Rattle.sx_edit.proofs.Splicing.{countable, cut-cannot, moved-there, parented, remove-cannot, remove-done, remove-top, remove-value}
 use Rattle.sx_edit.proofs.removal.remove.Goals as goal
 
 pub returns-in_err-entry-clause-answers : goal.returns-in_err-entry-clause-answers
@@ -17,7 +16,7 @@ returns-in_err-entry-clause-fault g c =
 
 pub returns-in_default-clause-answers : goal.returns-in_default-clause-answers
 unfolding AnswersEach
-returns-in_default-clause-answers g c = λ state are paths. no-node _ _ state _ _ _ c.in_ok-entry.ensures.found c.in_default.is are
+returns-in_default-clause-answers g c = λ state are of_state. no-node _ _ state _ _ _ c.in_ok-entry.ensures.found c.in_default.is are
 
 pub returns-in_default-parent-clause-answers : goal.returns-in_default-parent-clause-answers
 returns-in_default-parent-clause-answers g c = remove-top _ _ c.in-Some.entry _ _ (λ m e. sym (c.in_ok-entry.ensures.found m e) ∙ c.in-Some.is) c.in_default-parent.is
@@ -48,10 +47,9 @@ returns-in_err-tree-clause-fault g c = breach-explains_edit c.args.next _ _ c.fr
 
 pub returns-in_err-take_out-clause-answers : goal.returns-in_err-take_out-clause-answers
 returns-in_err-take_out-clause-answers g c =
-    err-answers _ _ _ _ c.from_residual-in_err-take_out.result _ c.from_residual-in_err-take_out.ensures.1
-    (λ damaged. remove-cannot _ _ c.in-Some.entry _ _ None _ (record { parent = c.in-Some-parent.parent; left = c.in-Some.entry.left; right = c.in-Some.entry.right; left_fits = c.in-Some.entry.left_fits; right_fits = c.in-Some.entry.right_fits })
-    c.in_ok-tree.tree (λ m e. sym (c.in_ok-entry.ensures.found m e) ∙ c.in-Some.is) (c.in_ok-above.ensures.same ∙ c.in_ok-entry.ensures.same)
-    (record { up = c.in-Some-parent.is; gap_parent = refl; gap_left = refl; gap_right = refl; number = c.in_ok-tree.ensures.tree.0; nodes = c.in_ok-tree.ensures.tree.1; hash = c.in_ok-tree.ensures.tree.2; fits = c.requires }) (c.in_err-take_out.ensures.cannot damaged) (mended-untold _ _ _ _))
+    err-answers_kept _ _ _ _ c.from_residual-in_err-take_out.result _ c.from_residual-in_err-take_out.ensures.1
+    (λ damaged. cut-cannot _ _ c.in-Some.entry _ _ _ (λ m e. sym (c.in_ok-entry.ensures.found m e) ∙ c.in-Some.is) (c.in_ok-above.ensures.same ∙ c.in_ok-entry.ensures.same)
+    (c.in_err-take_out.ensures.cannot damaged))
 
 pub returns-in_err-mend-clause-answers : goal.returns-in_err-mend-clause-answers
 returns-in_err-mend-clause-answers g c =
@@ -61,6 +59,6 @@ returns-in_err-mend-clause-answers g c =
 
 pub returns-clause-answers : goal.returns-clause-answers
 returns-clause-answers g c =
-    remove-done _ _ c.in-Some.entry _ _ _ _ c.in_ok-above.above _ _ c.in_ok-tree.tree (λ m e. sym (c.in_ok-entry.ensures.found m e) ∙ c.in-Some.is) c.in-Some-parent.is
+    remove-done _ _ c.in-Some.entry _ _ _ _ _ _ c.in_ok-above.above _ _ c.in_ok-tree.tree (λ m e. sym (c.in_ok-entry.ensures.found m e) ∙ c.in-Some.is) c.in-Some-parent.is
     (moved-there _ _ _ _ c.in_ok-entry.ensures.same c.in_ok-above.ensures.found) (cc) (c.in_ok-above.ensures.same ∙ c.in_ok-entry.ensures.same)
-    (record { up = c.in-Some-parent.is; gap_parent = refl; gap_left = refl; gap_right = refl; number = c.in_ok-tree.ensures.tree.0; nodes = c.in_ok-tree.ensures.tree.1; hash = c.in_ok-tree.ensures.tree.2; fits = c.requires }) c.in_ok-take_out.ensures.done c.in_ok-mend.ensures.done
+    (record { up = c.in-Some-parent.is; gap_parent = refl; gap_left = refl; gap_right = refl; number = c.in_ok-tree.ensures.tree.0; nodes = c.in_ok-tree.ensures.tree.1; hash = c.in_ok-tree.ensures.tree.2; fits = c.requires }) c.in_ok-take_out.ensures.done c.in_ok-take_out.ensures.left_out c.in_ok-mend.ensures.done

@@ -7,7 +7,7 @@ use Rattle.sx_edit.proofs.SettingScalars.{scalar-wrong, scalar-done, scalar-gets
 use Rattle.sx_edit.proofs.scalars.set_scalar.Goals as goal
 
 pub returns-in_err-entry-clause-answers : goal.returns-in_err-entry-clause-answers
-returns-in_err-entry-clause-answers g c =
+returns-in_err-entry-clause-answers g c = λ table.
     err-answers _ _ _ _ c.from_residual.result _ c.from_residual.ensures.1 (λ damaged. untold-no_state _ _ (c.in_err-entry.ensures.untold damaged))
 
 pub returns-in_err-entry-clause-fault : goal.returns-in_err-entry-clause-fault
@@ -17,26 +17,26 @@ returns-in_err-entry-clause-fault g c =
 
 pub returns-in_default-clause-answers : goal.returns-in_default-clause-answers
 unfolding AnswersEach
-returns-in_default-clause-answers g c = λ state are paths. no-node _ _ state _ _ _ c.in_ok-entry.ensures.found c.in_default.is are
+returns-in_default-clause-answers g c = λ table state are of_state. no-node _ _ state _ _ _ c.in_ok-entry.ensures.found c.in_default.is are
 
 pub returns-then-not-is_scalar-clause-answers : goal.returns-then-not-is_scalar-clause-answers
-returns-then-not-is_scalar-clause-answers g c = scalar-wrong _ _ _ c.in-Some.entry _ _ (λ m e. sym (c.in_ok-entry.ensures.found m e) ∙ c.in-Some.is) (cc)
+returns-then-not-is_scalar-clause-answers g c = λ table. scalar-wrong _ _ _ c.in-Some.entry _ _ (λ m e. sym (c.in_ok-entry.ensures.found m e) ∙ c.in-Some.is) (cc)
 
 pub returns-in_err-label-clause-answers : goal.returns-in_err-label-clause-answers
-returns-in_err-label-clause-answers g c = memory-answers _ _ _ _ c.from_residual-in_err-label.result c.from_residual-in_err-label.ensures.1
+returns-in_err-label-clause-answers g c = λ table. memory-answers _ _ _ _ c.from_residual-in_err-label.result c.from_residual-in_err-label.ensures.1
 
 pub returns-in_err-relabel-clause-answers : goal.returns-in_err-relabel-clause-answers
-returns-in_err-relabel-clause-answers g c =
+returns-in_err-relabel-clause-answers g c = λ table.
     err-answers _ _ _ _ c.from_residual-in_err-relabel.result _ c.from_residual-in_err-relabel.ensures.1
     (λ damaged. relabel-cannot _ _ c.in-Some.entry _ _ (λ m e. sym (c.in_ok-entry.ensures.found m e) ∙ c.in-Some.is) c.in_ok-entry.ensures.same (c.in_err-relabel.ensures.cannot damaged))
 
 pub returns-clause-answers : goal.returns-clause-answers
-returns-clause-answers g c =
+returns-clause-answers g c = λ table.
     let told = g.N.Records.told in
     let gets = g.N.Records.gets in
     let old : Moment = record { told = told c.args.nodes.now; gets = gets c.args.nodes.now } in
     let after : Moment = record { told = told c.relabel.new.nodes; gets = gets c.relabel.new.nodes } in
-    scalar-done _ c.args.value.now _ c.in-Some.entry _ _ old (record { told = told c.read.new.nodes; gets = gets c.read.new.nodes }) after
+    scalar-done _ c.args.value.now _ c.in-Some.entry _ _ old (record { told = told c.read.new.nodes; gets = gets c.read.new.nodes }) after table
     (λ m e. sym (c.in_ok-entry.ensures.found m e) ∙ c.in-Some.is) (cc) c.in_ok-label.ensures c.in_ok-entry.ensures.same c.in_ok-relabel.ensures.done
 
 pub returns-clause-gets : goal.returns-clause-gets
@@ -46,5 +46,5 @@ returns-clause-gets g c =
     let gets = g.N.Records.gets in
     let old : Moment = record { told = told c.args.nodes.now; gets = gets c.args.nodes.now } in
     let after : Moment = record { told = told c.relabel.new.nodes; gets = gets c.relabel.new.nodes } in
-    scalar-gets _ c.args.value.now _ c.in-Some.entry _ _ old (record { told = told c.read.new.nodes; gets = gets c.read.new.nodes }) after
+    scalar-gets _ c.args.value.now _ c.in-Some.entry _ _ _ old (record { told = told c.read.new.nodes; gets = gets c.read.new.nodes }) after
     (λ m e. sym (c.in_ok-entry.ensures.found m e) ∙ c.in-Some.is) c.in_ok-entry.ensures.same c.in_ok-entry.ensures.gets c.in_ok-relabel.ensures.done

@@ -1,0 +1,13 @@
+use Rattle.std.proofs.Common.{◌∙◌, sym}
+use Rattle.sx_edit.proofs.Results.{if_err-then, on_ok-then}
+use Rattle.sx_edit.proofs.Pathing.{node-out, node-stays}
+use Rattle.sx_edit.proofs.paths.leave_path.Goals as goal
+
+pub returns-then-is_value-clause-done : goal.returns-then-is_value-clause-done
+returns-then-is_value-clause-done c = on_ok-then c.count_out.result _ _ (λ out. node-out _ _ _ _ (sym c.is_value.ensures ∙ c.if-is_value.true) out) c.count_out.ensures.done
+
+pub returns-then-is_value-clause-cannot : goal.returns-then-is_value-clause-cannot
+returns-then-is_value-clause-cannot c = if_err-then c.count_out.result _ _ (λ fault out. node-out _ _ _ _ (sym c.is_value.ensures ∙ c.if-is_value.true) out) c.count_out.ensures.cannot
+
+pub returns-clause-done : goal.returns-clause-done
+returns-clause-done c = node-stays _ _ _ (sym c.is_value.ensures ∙ c.if-is_value.false)

@@ -1,0 +1,142 @@
+//! Trees that stand on other paths.
+ghost use Rattle.std.specs.Prelude.{◌≡◌, ◌<◌, ◌≤◌, ◌^◌, ℕ, [], ◌∷◌, None, Some, IfErr, IfNone, IfOk, IfSome, OnOk};
+ghost use Rattle.sx_outside.specs.Faults.{Rose};
+ghost use Rattle.sx_edit.specs.Damage.{IsBreachFault};
+ghost use Rattle.sx_edit.specs.EditFault.{ExplainsEdit, IsBreachEdit};
+ghost use Rattle.sx_edit.specs.Pathways.{kept};
+ghost use Rattle.sx_edit.specs.Repath.{CannotExchange, IsExchanged, IsRepathed, IsUnder, StopsRepathing, StopsUnder, first_goals, goal_of, goals_of, with_goal};
+ghost use Rattle.sx_edit.specs.Steps.{GoesOn};
+
+use crate::damage::endless;
+use crate::fault::EditFault;
+use crate::kinds::is_value;
+use crate::paths::{count_in, count_out, name_step, step_onto};
+use crate::reads::{read_linked, write};
+use crate::trees::{Move, Over};
+use std::alloc::{AllocError, Global};
+use sx_paths::PathTable;
+use sx_tree::record::{Kind, NodeRecord, Step};
+use sx_tree::text::Text;
+use sx_view::{Fault, RecordsMut};
+
+/// Adds the link at the end, where there is one.
+fn push_move(
+    moves: &mut Vec<Move>,
+    over: Over,
+    from: u32,
+    to: Option<u32>,
+) -> Result<(), AllocError>
+    ensures { OnOk result (goals_of moves.new.items ≡ with_goal over.kind over.path to (goals_of moves.old.items)) }
+{
+    if let Some(to) = to {
+        moves.push(Move { over, from, to })?;
+    }
+    Ok(())
+}
+
+/// Takes the last link.
+fn pop_move(moves: &mut Vec<Move>) -> Option<Move>
+    ensures some { IfSome result (λ at. goals_of moves.old.items
+        ≡ goal_of at.over.kind at.over.path at.to ∷ goals_of moves.new.items) }
+    ensures none { IfNone result (goals_of moves.old.items ≡ []) }
+{
+    moves.pop()
+}
+
+/// The number of the new path of a child with this label.
+fn path_under(
+    alloc: Global,
+    paths: &mut PathTable,
+    had: u32,
+    over: Over,
+    node: u32,
+    label: &Text,
+) -> Result<u32, EditFault>
+    ensures under { IfOk result (λ number. IsUnder over.kind over.path label.now number
+        paths.old.paths paths.new.paths) }
+    ensures fits { IfOk result (λ number. number < 2 ^ 30) }
+    ensures stops { IfErr result (StopsUnder over.kind over.path label.now had paths.old.paths) }
+    ensures same_mark { paths.new.marked ≡ paths.old.marked }
+    ensures fault { (next : ℕ) → IfErr result (IsBreachEdit next) }
+{
+    match over.kind {
+        Kind::Document => step_onto(alloc, paths, had, node, 0, Step::Top),
+        Kind::Object => {
+            let step = name_step(alloc, label)?;
+            step_onto(alloc, paths, had, node, over.path, step)
+        }
+        Kind::Array => step_onto(alloc, paths, had, node, over.path, Step::Item),
+        _ => Ok(over.path),
+    }
+}
+
+/// Counts a node of this kind out of the old path and into the new one, where it is a value.
+fn change_path(
+    paths: &mut PathTable,
+    node: u32,
+    kind: Kind,
+    old: u32,
+    new: u32,
+) -> Result<(), Fault>
+    ensures done { OnOk result (IsExchanged kind old new paths.old.paths paths.new.paths) }
+    ensures cannot { IfErr result (λ fault. CannotExchange kind old new paths.old.paths) }
+    ensures same_mark { paths.new.marked ≡ paths.old.marked }
+    ensures fault { (next : ℕ) → IfErr result (IsBreachFault next) }
+{
+    if is_value(kind) {
+        count_out(paths, node, old)?;
+        count_in(paths, node, new)?;
+    }
+    Ok(())
+}
+
+/// Puts the trees from this child of the node on to the right, with all below them, on the paths that go on from the
+/// node's new one.
+///
+/// # Errors
+///
+/// `Refused(PathsSpent)` where there is no room for a path; `Damaged` where a record, a path or a count is not as it
+/// must be; `Failed`; `OutOfMemory`.
+pub(crate) fn repath<N: RecordsMut<NodeRecord>>(
+    alloc: Global,
+    nodes: &mut N,
+    paths: &mut PathTable,
+    had: u32,
+    next: u32,
+    over: Over,
+    first: Option<u32>,
+) -> Result<(), EditFault>
+    ensures done { OnOk result (IsRepathed (first_goals over.kind over.path first) next
+        (kept (N.told nodes.old) paths.old.paths)
+        (kept (N.told nodes.new) paths.new.paths)) }
+    ensures stops { IfErr result (StopsRepathing (first_goals over.kind over.path first) next had
+        (kept (N.told nodes.old) paths.old.paths)) }
+    ensures same_mark { paths.new.marked ≡ paths.old.marked }
+    ensures goes_on { GoesOn N.told N.faults N.has_mark N.marks nodes.old nodes.new }
+    ensures fault { IfErr result (ExplainsEdit next (N.told nodes.old)
+        (Rose (N.faults nodes.old) (N.faults nodes.new))) }
+{
+    let mut left: Vec<Move> = Vec::new(alloc);
+    push_move(&mut left, over, over.node, first)?;
+    for _turn in 0..next {
+        let Some(at) = pop_move(&mut left) else {
+            return Ok(());
+        };
+        let mut entry = read_linked(alloc, nodes, at.from, at.to)?;
+        let path = path_under(alloc, paths, had, at.over, at.to, &entry.label)?;
+        change_path(paths, at.to, entry.kind, entry.path, path)?;
+        push_move(&mut left, at.over, at.to, entry.right)?;
+        let below = Over {
+            node: at.to,
+            kind: entry.kind,
+            path,
+        };
+        push_move(&mut left, below, at.to, entry.first)?;
+        entry.path = path;
+        write(alloc, nodes, at.to, entry)?;
+    }
+    match pop_move(&mut left) {
+        Some(_) => Err(EditFault::Damaged(endless(next))),
+        None => Ok(()),
+    }
+}
