@@ -133,6 +133,11 @@ def back():
     return document(Node(1, "Object", b"", keys))
 
 
+def branched():
+    keys = [Node(2, "Key", b"a", [Node(3, "Object", b"", [Node(4, "Key", b"x", [number(5, "1")])])])]
+    return document(Node(1, "Object", b"", [*keys, Node(6, "Key", b"b", [number(7, "2")])]))
+
+
 TABLES = {
     "FIELDS": fields(),
     "SCALAR": fields(scalar=("Str", b"x")),
@@ -162,6 +167,7 @@ TABLES = {
     "BACK": back(),
     "DEEP": deep(b"a"),
     "DEEP_NAMED": deep(b"c"),
+    "BRANCHED": branched(),
 }
 
 # Of each table of paths the documents that came one after another, with the last one's values counted.
@@ -185,6 +191,7 @@ PATHS = {
     "DEEP_PATHS": ["DEEP"],
     "DEEP_NAMED_PATHS": ["DEEP", "DEEP_NAMED"],
     "DEEP_AGAIN_PATHS": ["DEEP", "DEEP_NAMED", "DEEP"],
+    "BRANCHED_PATHS": ["BRANCHED"],
 }
 
 # The documents that came before, where their paths stay.

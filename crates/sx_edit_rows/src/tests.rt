@@ -1,12 +1,13 @@
 ghost use Rattle.std.specs.Prelude.{◌<◌, ◌≤◌};
 
 use crate::tables::{
-    BACK, BACK_PATHS, DEEP, DEEP_AGAIN_PATHS, DEEP_NAMED, DEEP_NAMED_PATHS, DEEP_PATHS,
-    EMPTIED_PATHS, EMPTY, FIELDS, FIELDS_PATHS, FIRST_REPLACED, FOUR_PATHS, LAST_REPLACED, LOADED,
-    LOADED_PATHS, MIDDLE_REPLACED, MIRRORED, NAMED, NAMED_PATHS, NESTED_PATHS, NEW_ALONE, NEW_AT_0,
-    NEW_AT_1, NEW_AT_2, NEW_AT_3, NEW_BEFORE, NEW_BEHIND, NEW_MEMBER, NEW_MEMBER_PATHS, NO_FIRST,
-    NO_KEY, NO_KEY_PATHS, NO_LAST, NO_MIDDLE, NONE, NONE_PATHS, ONE, ONE_GONE_PATHS, ONE_PATHS,
-    PAIRS, REPLACED_PATHS, SCALAR, SHORTER_PATHS, THREE, THREE_PATHS, TWO_PATHS,
+    BACK, BACK_PATHS, BRANCHED, BRANCHED_PATHS, DEEP, DEEP_AGAIN_PATHS, DEEP_NAMED,
+    DEEP_NAMED_PATHS, DEEP_PATHS, EMPTIED_PATHS, EMPTY, FIELDS, FIELDS_PATHS, FIRST_REPLACED,
+    FOUR_PATHS, LAST_REPLACED, LOADED, LOADED_PATHS, MIDDLE_REPLACED, MIRRORED, NAMED, NAMED_PATHS,
+    NESTED_PATHS, NEW_ALONE, NEW_AT_0, NEW_AT_1, NEW_AT_2, NEW_AT_3, NEW_BEFORE, NEW_BEHIND,
+    NEW_MEMBER, NEW_MEMBER_PATHS, NO_FIRST, NO_KEY, NO_KEY_PATHS, NO_LAST, NO_MIDDLE, NONE,
+    NONE_PATHS, ONE, ONE_GONE_PATHS, ONE_PATHS, PAIRS, REPLACED_PATHS, SCALAR, SHORTER_PATHS,
+    THREE, THREE_PATHS, TWO_PATHS,
 };
 use std::alloc::Global;
 use std::test::Fail;
@@ -213,6 +214,17 @@ fn loads(rt: HostRuntime) -> Result<(), Fail> {
     let value = read(alloc, b"{\"a\":1}")?;
     assert_eq!(rt; document.edit(alloc, &Edit::Load { value }, 3), made(3, 6));
     assert!(rt; document.is(alloc, &LOADED, &LOADED_PATHS)?);
+    Ok(())
+}
+
+/// What is below a member stands on paths that come before that of the next member.
+#[test]
+fn branches(rt: HostRuntime) -> Result<(), Fail> {
+    let alloc = rt.alloc();
+    let mut document = document_of(alloc, &EMPTY, &[])?;
+    let value = read(alloc, b"{\"a\":{\"x\":1},\"b\":2}")?;
+    assert_eq!(rt; document.edit(alloc, &Edit::Load { value }, 1), made(1, 8));
+    assert!(rt; document.is(alloc, &BRANCHED, &BRANCHED_PATHS)?);
     Ok(())
 }
 
