@@ -56,6 +56,13 @@ impl PathTable {
         self.index.find(parent, step)
     }
 
+    /// How many paths there are.
+    pub fn len(&self) -> u32
+        ensures { result ≡ length self.now.paths }
+    {
+        self.entries.len() as u32
+    }
+
     /// The path of the number. None exactly where there is none.
     pub fn record(&self, p: u32) -> Option<&PathRecord>
         ensures { option_map row_of (option_copied result) ≡ row_at self.now.paths p }
