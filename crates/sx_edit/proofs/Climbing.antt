@@ -1,5 +1,5 @@
 -- From the hole up, one row after the other.
-use Rattle.std.proofs.Common.{◌≡◌, ℕ, ◌+◌, ◌*◌, ◌≤◌, arith, Bool, true, false, cond, List, [], ◌∷◌, ◌++◌, Option, Some, None, refl, sym, ap, subst, ◌∙◌, mul_comm, map, append_assoc}
+use Rattle.std.proofs.Common.{◌≡◌, ℕ, ◌*◌, arith, Bool, true, false, cond, List, [], ◌∷◌, ◌++◌, length, Option, Some, None, refl, sym, ap, subst, ◌∙◌, mul_comm, map, append_assoc}
 use Rattle.std.specs.Prelude.{◌%◌, ◌^◌}
 use Rattle.std.specs.Ordering.{nat_cmp, eq_by_cmp}
 use Rattle.std.specs.List.{list_any}
@@ -13,7 +13,7 @@ use Rattle.sx_model.specs.Records.{Around, around_children, NodeRow, rows}
 use Rattle.sx_edit.specs.Holes.{numbers_before, AreNew, whole, frame_rows, shifted, above}
 use Rattle.sx_view.specs.Records.{RecordMap}
 use Rattle.sx_view.specs.Rows.{row_of}
-use Rattle.sx_edit.specs.Told.{Holds, IsLifted, Moment}
+use Rattle.sx_edit.specs.Told.{Holds, IsLifted}
 use Rattle.sx_edit.proofs.Finding.{find-new, find-there, find-middle}
 use Rattle.sx_edit.proofs.Shifts.{row-shift, shift-frame, alike-frame}
 use Rattle.std.specs.Cmp.{nat_cmp_total}
@@ -95,36 +95,30 @@ module _ (local : Kind → List ℕ → ℕ) (number : List Step → ℕ) where
 pub some_is : (x y : NodeRow) → Some x ≡ Some y → x ≡ y
 some_is x y is = cc
 
-pub lifted-none : (plus minus d : ℕ) (now : Moment) → IsLifted None plus minus d now now
+pub lifted-none : (plus minus d : ℕ) (now : Option (RecordMap NodeRecord)) → IsLifted [] plus minus d now now
 unfolding IsLifted
-lifted-none plus minus d now local number [] a b hole new up is alike holds = (holds, omega arith)
-lifted-none plus minus d now local number (frame ∷ frames) a b hole new up is alike holds = absurd cc
+lifted-none plus minus d now local number [] was a b hole new seen shift alike holds = holds
+lifted-none plus minus d now local number (frame ∷ frames) was a b hole new seen shift alike holds = absurd (let n = ap length seen in omega arith)
 
--- the record of the node that was changed, and its parent
-pub record IsRaised (n plus minus d : ℕ) (r s : NodeRecord) (before after : Moment) : Type 0 where
-  pub there : ForSome before.told (λ m. fin.get m n ≡ Some r)
-  pub changed : row_of s ≡ shifted plus minus (d * 257 % 2 ^ 128) (row_of r)
-  pub put : after.told ≡ option_map (λ m. fin.insert m n s) before.told
-  pub gets : after.gets ≤ before.gets + 1
-
-turned_there : (o : Option (RecordMap NodeRecord)) (n : ℕ) (r : NodeRecord) → ForSome o (λ m. fin.get m n ≡ Some r) → ForSome o (λ m. Some r ≡ fin.get m n)
+pub turned_there : (o : Option (RecordMap NodeRecord)) (n : ℕ) (r : NodeRecord) → ForSome o (λ m. fin.get m n ≡ Some r) → ForSome o (λ m. Some r ≡ fin.get m n)
 turned_there o n r there = λ m e. sym (there m e)
 
--- a node's record was changed, and then its parent was lifted
-pub lifted-more : (node : Option ℕ) (n plus minus d : ℕ) (r s : NodeRecord) (before after last : Moment) → node ≡ Some n → IsRaised n plus minus d r s before after
-    → IsLifted r.parent plus minus (d * 257 % 2 ^ 128) after last → IsLifted node plus minus d before last
+pub first_is : (e x : ℕ × NodeRow) (es xs : List (ℕ × NodeRow)) → e ∷ es ≡ x ∷ xs → (e ≡ x) × (es ≡ xs)
+first_is e x es xs is = (cc, cc)
+
+-- a node got its record changed, and then those above it
+pub lifted-more : (all rest : List (ℕ × NodeRow)) (n : ℕ) (w : NodeRow) (plus minus d e : ℕ) (s : NodeRecord) (before after last : Option (RecordMap NodeRecord)) → all ≡ (n, w) ∷ rest → e ≡ d * 257 % 2 ^ 128
+    → row_of s ≡ shifted plus minus e w → after ≡ option_map (λ m. fin.insert m n s) before → IsLifted rest plus minus e after last → IsLifted all plus minus d before last
 unfolding IsLifted
-lifted-more at n plus minus d r s before after last is raised rest local number [] a b hole new up shift alike holds = absurd cc
-lifted-more at n plus minus d r s before after last is raised rest local number (frame ∷ frames) a b hole new up shift alike holds =
-    let same : n ≡ frame.node.number = cc in
-    let there : ForSome before.told (λ m. Some r ≡ fin.get m frame.node.number) = rw same at (turned_there before.told n r raised.there) in
-    let put : option_map (λ m. fin.insert m frame.node.number s) before.told ≡ after.told = rw same at (sym raised.put) in
-    let swap : d * 257 % 2 ^ 128 ≡ 257 * d % 2 ^ 128 = ap (λ z. z % 2 ^ 128) (mul_comm d 257) in
-    let known = some_is _ _ (holds-get local number before.told (Some r) frames frame a hole new holds there) in
-    let parent : above frames ≡ r.parent = sym (ap (λ w. w.parent) known ∙ parent-around_hole local number frames) in
-    let changed = raised.changed ∙ ap (shifted plus minus (d * 257 % 2 ^ 128)) known ∙ row-shift local number plus minus d (d * 257 % 2 ^ 128) frames frame a b shift alike swap in
-    let above_it = rest local number frames _ _ _ new.1 parent (shift-frame local number plus minus d (d * 257 % 2 ^ 128) frame a b shift swap) (alike-frame local number frame a b)
-    (subst (λ x. Holds x (whole local number frames (shown_by local frame a) (frame_rows local number frames frame b hole))) put (holds-put local number before.told s frames frame a b hole new holds changed)) in
-    let gets = raised.gets in
-    let more = above_it.1 in
-    (subst (Holds last.told) (sym (whole-frame local number frames frame b hole)) above_it.0, omega arith)
+lifted-more all rest n w plus minus d e s before after last all_is e_is changed put more local number [] was a b hole new seen shift alike holds = absurd (let m = ap length (seen ∙ all_is) in omega arith)
+lifted-more all rest n w plus minus d e s before after last all_is e_is changed put more local number (frame ∷ frames) was a b hole new seen shift alike holds =
+    let parts = first_is _ _ _ _ (seen ∙ all_is) in
+    let number_is : frame.node.number ≡ n = ap (λ (x : ℕ × NodeRow). x.0) parts.0 in
+    let row_is : frame_row local number frames frame a ≡ w = ap (λ (x : ℕ × NodeRow). x.1) parts.0 in
+    let swap : e ≡ 257 * d % 2 ^ 128 = e_is ∙ ap (λ z. z % 2 ^ 128) (mul_comm d 257) in
+    let put_n : option_map (λ m. fin.insert m frame.node.number s) before ≡ after = (λ i. option_map (λ m. fin.insert m (number_is i) s) before) ∙ sym put in
+    let row_s = changed ∙ ap (shifted plus minus e) (sym row_is) ∙ row-shift local number plus minus d e frames frame a b shift alike swap in
+    subst (Holds last) (sym (whole-frame local number frames frame b hole))
+    (more local number frames (shown_by local frame was) (shown_by local frame a) (shown_by local frame b) (frame_rows local number frames frame b hole) new.1 parts.1
+    (shift-frame local number plus minus d e frame a b shift swap) (alike-frame local number frame a b)
+    (subst (λ x. Holds x (whole local number frames (shown_by local frame was) (frame_rows local number frames frame b hole))) put_n (holds-put local number before s frames frame was b hole new holds row_s)))

@@ -12,10 +12,11 @@ use Rattle.sx_model.specs.State.{State}
 use Rattle.sx_model.specs.Tree.{Node, Forest, no_trees, beside}
 use Rattle.sx_edit.specs.declared.fault.EditFault.{EditFault}
 use Rattle.sx_edit.specs.declared.trees.Gap.{Gap}
+use Rattle.sx_edit.specs.declared.trees.Rim.{Rim}
 use Rattle.sx_edit.specs.declared.trees.Tree.{Tree}
 use Rattle.sx_edit.specs.Answers.{Answers, IsTableOf}
 use Rattle.sx_edit.specs.Edited.{rows_in}
-use Rattle.sx_edit.specs.Fill.{IsFilled, IsGap, Opening, StandsOn, StopsFilling, entering_paths, entering_top, enters, left_open}
+use Rattle.sx_edit.specs.Fill.{IsFilled, IsGap, IsOpen, Opening, StandsOn, StopsFilling, entering_paths, entering_top, enters, left_open}
 use Rattle.sx_edit.specs.Pathways.{HasAll, IsPathAt, Kept, Lists, Numbers, Stops, more_on}
 use Rattle.sx_edit.specs.Told.{Holds, Shows, numbers_of}
 use Rattle.sx_edit.proofs.Answering.{stops-answers}
@@ -33,7 +34,7 @@ entering-tree (Some name) v n m steps =
     append-nil (paths_below (Some key) (path_of (Some m) steps name) (numbered v (n + 1) no_trees)) ∙ paths-value v (n + 1) key (path_of (Some m) steps name)
 
 -- The gap stands open, and the trees with what comes are these. The paths of all others are listed, and their values counted.
-pub record IsComing (state : State) (next : ℕ) (gap : Gap) (old : Option Tree) (name : Option (List ℕ)) (v : Value) (path : ℕ) (before : Kept) (trees : Forest) : Type 0 where
+pub record IsComing (state : State) (next : ℕ) (gap : Gap) (rim : Rim) (old : Option Tree) (name : Option (List ℕ)) (v : Value) (path : ℕ) (before : Kept) (trees : Forest) : Type 0 where
   pub at : Opening
   pub steps : List Step
   -- the paths that are listed by then
@@ -47,9 +48,9 @@ pub record IsComing (state : State) (next : ℕ) (gap : Gap) (old : Option Tree)
   pub front : HasAll state.paths (paths_left (at.frame ∷ at.frames) at.left)
   pub back : HasAll state.paths (paths_right (at.frame ∷ at.frames) at.right)
   pub room : (other : List Step) → counts_around (paths_left (at.frame ∷ at.frames) at.left) (paths_right (at.frame ∷ at.frames) at.right) other + nodes v < 2 ^ 32
-  pub shows : (number : List Step → ℕ) → Numbers number listed → AreBelow next (numbers_of (left_open number at)) × Shows before.told (left_open number at)
+  pub shows : (number : List Step → ℕ) → Numbers number listed → AreBelow next (numbers_of (left_open number at)) × IsOpen number rim at before.told
 
-module _ (state : State) (next more had : ℕ) (gap : Gap) (old : Option Tree) (name : Option (List ℕ)) (v : Value) (path : ℕ) (before : Kept) (trees : Forest) (is : IsComing state next gap old name v path before trees) where
+module _ (state : State) (next more had : ℕ) (gap : Gap) (rim : Rim) (old : Option Tree) (name : Option (List ℕ)) (v : Value) (path : ℕ) (before : Kept) (trees : Forest) (is : IsComing state next gap rim old name v path before trees) where
   coming-paths : paths_in trees ≡ paths_left (is.at.frame ∷ is.at.frames) is.at.left ++ (entering_paths name v next is.steps ++ paths_right (is.at.frame ∷ is.at.frames) is.at.right)
   coming-paths =
       ap paths_in (sym is.trees_are) ∙ paths-among (is.at.frame ∷ is.at.frames) is.at.left (entering name v next no_trees) is.at.right
@@ -57,7 +58,7 @@ module _ (state : State) (next more had : ℕ) (gap : Gap) (old : Option Tree) (
       (entering-tree name v next is.at.frame.node (around_hole (is.at.frame ∷ is.at.frames)).path ∙ ap (entering_paths name v next) is.stands)
 
   -- the records and the table of the new state
-  pub coming-done : (after : Kept) → IsFilled next gap old (enters name v path had) before after
+  pub coming-done : (after : Kept) → IsFilled next gap rim old (enters name v path had) before after
       → (unless (paths_spent state (with_trees state more trees) ∷ []) (with_trees state more trees) ≡ Ok (with_trees state more trees))
       × Holds after.told (rows_in (number_of (with_trees state more trees).paths) trees) × IsTableOf (with_trees state more trees) after.table
   unfolding IsFilled
@@ -79,7 +80,7 @@ module _ (state : State) (next more had : ℕ) (gap : Gap) (old : Option Tree) (
 
   -- what stops it is answered
   pub coming-stops : (edit : Edit) (after : Kept) (e : EditFault) → had ≡ length state.paths
-      → apply edit state ≡ unless (paths_spent state (with_trees state more trees) ∷ []) (with_trees state more trees) → StopsFilling next gap old (enters name v path had) before e
+      → apply edit state ≡ unless (paths_spent state (with_trees state more trees) ∷ []) (with_trees state more trees) → StopsFilling next gap rim old (enters name v path had) before e
       → Answers edit state after (Err e)
   unfolding StopsFilling
   coming-stops edit after e had_is is_apply stops =

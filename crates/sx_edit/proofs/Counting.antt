@@ -93,12 +93,6 @@ fault-passes {T = T} refusal reading.Failed (Err e) is never = subst (λ x. Pass
 fault-passes refusal (reading.Damaged d) (Err e) is never = absurd (never tt)
 fault-passes {T = T} refusal reading.OutOfMemory (Err e) is never = subst (λ x. Passes {T = T} refusal (Err x)) (sym is) tt
 
-pub room-fault : {T : Type 0} (next parent : ℕ) (v : Value) (more : ℕ) (o : Option (RecordMap NodeRecord)) (fault : Fault) (result : Result T EditFault) → IsErrAnd result (λ e. e ≡ edit_fault fault)
-    → (IsDamaged fault → CountsLevels (Some parent) next o None) → MakesRoom next parent v more o result
-unfolding MakesRoom
-room-fault next parent v more o fault result is cannot frames frame inside state next_is site =
-    fault-passes _ fault result is (λ damaged. let none = site-counts parent next o None frames frame inside (cannot damaged) site in cc)
-
 spent-exact : (next more : ℕ) → nat_lt number_limit (next + min more (2 ^ 64 - 1)) ≡ nat_lt number_limit (next + more)
 spent-exact next more = grind (arith, nat_tests)
 

@@ -1,14 +1,15 @@
 -- Over the rows of trees nothing is damaged.
-use Rattle.std.proofs.Common.{◌≡◌, ℕ, ◌+◌, ◌-◌, ◌<◌, ◌≤◌, length, List, [], ◌∷◌, Option, Some, None, refl, sym, ap, subst, ◌∙◌, ◌*◌, mul_comm, arith}
-use Rattle.std.specs.Prelude.{◌%◌, ◌^◌}
+use Rattle.std.proofs.Common.{◌≡◌, ℕ, ◌+◌, ◌<◌, ◌≤◌, length, List, [], ◌∷◌, Option, Some, None, refl, sym, ap, subst, ◌∙◌, arith}
+use Rattle.std.specs.Prelude.{◌^◌}
 use Rattle.sx_model.specs.Holes.{Shown, Frame, shown_by, frame_row}
 use Rattle.sx_model.specs.Records.{NodeRow}
-use Rattle.sx_edit.specs.Holes.{AreNew, above, top_shown, frame_rows, whole, shifted, IsShift, IsAlike}
+use Rattle.sx_edit.specs.Holes.{AreNew, above, top_shown, frame_rows, rows_above, whole}
+use Rattle.sx_edit.specs.Seen.{IsChain, entries_of}
+use Rattle.sx_edit.specs.declared.trees.Seen.{Seen}
 use Rattle.sx_view.specs.Records.{RecordMap}
 use Rattle.sx_view.specs.Rows.{row_of}
-use Rattle.sx_edit.specs.Told.{Holds, CannotLift, Moment}
-use Rattle.sx_edit.proofs.Climbing.{IsRaised, holds-get, holds-put, parent-around_hole, some_is}
-use Rattle.sx_edit.proofs.Shifts.{row-shift}
+use Rattle.sx_edit.specs.Told.{Holds, CannotLift}
+use Rattle.sx_edit.proofs.Climbing.{first_is, holds-get, parent-around_hole, some_is, whole-frame}
 use Rattle.std.specs.Option.{option_map, ForSome}
 use Rattle.std.specs.FinMap as fin
 use Rattle.sx_tree.specs.declared.record.Kind.{Kind}
@@ -27,46 +28,36 @@ known n o found local number frames frame a hole there new same holds =
     let at_frame : ForSome o (λ m. found ≡ fin.get m frame.node.number) = rw same (λ m e. sym (there m e)) in
     holds-get local number o found frames frame a hole new holds at_frame
 
-pub cannot-deeper : (node : Option ℕ) (n plus minus levels : ℕ) (o : Option (RecordMap NodeRecord)) → node ≡ Some n → levels ≡ 0 → CannotLift node plus minus levels o
+pub cannot-count : (all rest : List (ℕ × NodeRow)) (n : ℕ) (w : NodeRow) (plus minus : ℕ) → all ≡ (n, w) ∷ rest → (minus ≤ w.descendants + plus → w.descendants + plus < 2 ^ 32 → ⊥) → CannotLift all plus minus
 unfolding CannotLift
-cannot-deeper at n plus minus levels o is none local number [] a hole new up deep room enough holds = absurd cc
-cannot-deeper at n plus minus levels o is none local number (frame ∷ frames) a hole new up deep room enough holds = omega arith
-
-pub cannot-absent : (node : Option ℕ) (n plus minus levels : ℕ) (o : Option (RecordMap NodeRecord)) → node ≡ Some n
-    → ForSome o (λ m. fin.get m n ≡ None) → CannotLift node plus minus levels o
-unfolding CannotLift
-cannot-absent at n plus minus levels o is there local number [] a hole new up deep room enough holds = absurd cc
-cannot-absent at n plus minus levels o is there local number (frame ∷ frames) a hole new up deep room enough holds =
-    let same : frame.node.number ≡ n = cc in
-    let row = known n o None local number frames frame a hole there new same holds in
-    absurd cc
-
-pub cannot-count : (node : Option ℕ) (n plus minus levels : ℕ) (o : Option (RecordMap NodeRecord)) (r : NodeRecord) → node ≡ Some n
-    → ForSome o (λ m. fin.get m n ≡ Some r) → (r.descendants + plus < 2 ^ 32 → minus ≤ r.descendants + plus → ⊥) → CannotLift node plus minus levels o
-unfolding CannotLift
-cannot-count at n plus minus levels o r is there wrong local number [] a hole new up deep room enough holds = absurd cc
-cannot-count at n plus minus levels o r is there wrong local number (frame ∷ frames) a hole new up deep room enough holds =
-    let same : frame.node.number ≡ n = cc in
-    let row = some_is _ _ (known n o (Some r) local number frames frame a hole there new same holds) in
-    let count : r.descendants ≡ a.nodes = ap (λ w. w.descendants) row in
+cannot-count all rest n w plus minus all_is wrong local number [] a seen room enough = absurd (let m = ap length (seen ∙ all_is) in omega arith)
+cannot-count all rest n w plus minus all_is wrong local number (frame ∷ frames) a seen room enough =
+    let parts = first_is _ _ _ _ (seen ∙ all_is) in
+    let count : w.descendants ≡ a.nodes = sym (ap (λ (x : ℕ × NodeRow). x.1.descendants) parts.0) in
     let top = big_top local (frame ∷ frames) a in
-    wrong (omega (arith, count, top)) (omega (arith, count))
+    wrong (omega (arith, count)) (omega (arith, count, top))
 
-pub cannot-above : (node : Option ℕ) (n plus minus levels fewer d : ℕ) (r s : NodeRecord) (before after : Moment) → node ≡ Some n → IsRaised n plus minus d r s before after
-    → levels - 1 ≡ fewer → CannotLift r.parent plus minus fewer after.told → CannotLift node plus minus levels before.told
+pub cannot-above : (all rest : List (ℕ × NodeRow)) (n : ℕ) (w : NodeRow) (plus minus : ℕ) → all ≡ (n, w) ∷ rest → CannotLift rest plus minus → CannotLift all plus minus
 unfolding CannotLift
-cannot-above at n plus minus levels fewer d r s before after is raised one_less rest local number [] a hole new up deep room enough holds = absurd cc
-cannot-above at n plus minus levels fewer d r s before after is raised one_less rest local number (frame ∷ frames) a hole new up deep room enough holds =
-    let same : frame.node.number ≡ n = cc in
-    let row = some_is _ _ (known n before.told (Some r) local number frames frame a hole raised.there new same holds) in
-    let b : Shown = record a { nodes = a.nodes + plus - minus; hashes = a.hashes + d } in
-    let shift : IsShift plus minus d a b = record { nodes = omega arith; hashes = refl } in
-    let alike : IsAlike a b = record { first = refl; last = refl; trees = refl } in
-    let swap : d * 257 % 2 ^ 128 ≡ 257 * d % 2 ^ 128 = ap (λ z. z % 2 ^ 128) (mul_comm d 257) in
-    let row_s = raised.changed ∙ ap (shifted plus minus (d * 257 % 2 ^ 128)) row ∙ row-shift local number plus minus d (d * 257 % 2 ^ 128) frames frame a b shift alike swap in
-    let put_here : option_map (λ m. fin.insert m frame.node.number s) before.told ≡ after.told = rw same (sym raised.put) in
-    let parent : above frames ≡ r.parent = sym (ap (λ w. w.parent) row ∙ parent-around_hole local number frames) in
-    let nearer : length frames ≤ fewer = omega arith in
-    let still : minus ≤ (shown_by local frame a).nodes + plus = omega arith in
-    rest local number frames (shown_by local frame a) (frame_rows local number frames frame b hole) new.1 parent nearer room still
-    (subst (λ x. Holds x (whole local number frames (shown_by local frame a) (frame_rows local number frames frame b hole))) put_here (holds-put local number before.told s frames frame a b hole new holds row_s))
+cannot-above all rest n w plus minus all_is more local number [] a seen room enough = absurd (let m = ap length (seen ∙ all_is) in omega arith)
+cannot-above all rest n w plus minus all_is more local number (frame ∷ frames) a seen room enough =
+    let parts = first_is _ _ _ _ (seen ∙ all_is) in
+    more local number frames (shown_by local frame a) parts.1 room (omega arith)
+
+-- the rows of the nodes above a hole, as they were read
+pub chain-rows : (local : Kind → List ℕ → ℕ) (number : List Step → ℕ) (frames : List Frame) (a : Shown) (hole : List (ℕ × NodeRow)) (node : Option ℕ) (seens : List Seen) (o : Option (RecordMap NodeRecord))
+    → AreNew frames → above frames ≡ node → Holds o (whole local number frames a hole) → IsChain o node seens → rows_above local number frames a ≡ entries_of seens
+chain-rows local number [] a hole node [] o new up holds chain = refl
+chain-rows local number [] a hole node (seen ∷ seens) o new up holds chain = absurd (let e : Some seen.node ≡ None = sym chain.0 ∙ sym up in cc)
+chain-rows local number (frame ∷ frames) a hole node [] o new up holds chain = absurd (let e : Some frame.node.number ≡ None = up ∙ chain in cc)
+chain-rows local number (frame ∷ frames) a hole node (seen ∷ seens) o new up holds chain =
+    let e : Some frame.node.number ≡ Some seen.node = up ∙ chain.0 in
+    let same : frame.node.number ≡ seen.node = cc in
+    let row = some_is _ _ (known seen.node o (Some seen.record) local number frames frame a hole chain.1 new same holds) in
+    let parent : above frames ≡ seen.record.parent = sym (ap (λ (w : NodeRow). w.parent) row ∙ parent-around_hole local number frames) in
+    let others = chain-rows local number frames (shown_by local frame a) (frame_rows local number frames frame a hole) seen.record.parent seens o new.1 parent (subst (Holds o) (whole-frame local number frames frame a hole) holds) chain.2 in
+    λ i. (same i, sym row i) ∷ others i
+
+pub length-rows_above : (local : Kind → List ℕ → ℕ) (number : List Step → ℕ) (frames : List Frame) (a : Shown) → length (rows_above local number frames a) ≡ length frames
+length-rows_above local number [] a = refl
+length-rows_above local number (frame ∷ frames) a = omega (arith, length-rows_above local number frames (shown_by local frame a))

@@ -21,6 +21,7 @@ use Rattle.sx_model.specs.Tree.{AreApart, Node, Forest, no_trees, tree_then, bes
 use Rattle.sx_model.proofs.Apart.{apart-with, up_from, up_from_apart, up_from_away}
 use Rattle.sx_model.proofs.NumberedTrees.{numbers-numbered}
 use Rattle.sx_edit.specs.declared.trees.Gap.{Gap}
+use Rattle.sx_edit.specs.declared.trees.Rim.{Rim}
 use Rattle.sx_edit.specs.declared.trees.Tree.{Tree}
 use Rattle.sx_edit.specs.declared.fault.EditFault.{EditFault}
 use Rattle.sx_edit.specs.declared.fault.EditFault.TheVariants.{OutOfMemory}
@@ -137,24 +138,24 @@ pub record IsEntered (next : ℕ) (gap : Gap) (new : Entering) (tree : Tree) (to
   pub nodes_are : tree.nodes ≡ top.descendants + 1
   pub hash : tree.hash ≡ top.hash
 
-pub filled : (next : ℕ) (gap : Gap) (old : Option Tree) (new : Entering) (tree : Tree) (top entry : NodeRecord) (o a : Kept) (b after : Option (RecordMap NodeRecord)) → IsEntered next gap new tree top entry o a b
-    → IsMended next gap old (Some tree) b after → IsFilled next gap old new o (kept after a.table)
+pub filled : (next : ℕ) (gap : Gap) (rim : Rim) (old : Option Tree) (new : Entering) (tree : Tree) (top entry : NodeRecord) (o a : Kept) (b after : Option (RecordMap NodeRecord)) → IsEntered next gap new tree top entry o a b
+    → IsMended next gap rim old (Some tree) b after → IsFilled next gap rim old new o (kept after a.table)
 unfolding IsFilled IsMended IsGrown
-filled next gap old new tree top entry o a b after is mended at listed count steps is_gap lists is_at stands =
+filled next gap rim old new tree top entry o a b after is mended at listed count steps is_gap lists is_at stands =
     let name : Option (List ℕ) = new.name in
     let v : Value = new.value in
     let grown = is.grown listed count steps lists is_at in (
       grown.0,
-      λ number numbers below shows.
+      λ number numbers below open_gap.
           let here = path-with listed (entering_paths name v next steps) steps new.path is_at in
           let there = entering-added number next gap old at name v new.path steps (row_of top) o.told a.told b is_gap stands (here.is ∙ sym (numbers.listed_are steps here.there)) is.top_is
           (grown.1 number numbers) (subst (λ w. IsAdded ((next, w) ∷ []) a.told b) is.entry_is is.put) in
-          let all = entered number next (entering_nodes name v) at (entering name v next no_trees) o.told b (numbers-entering name v next) below there shows in
+          let all = entered number next (entering_nodes name v) at (entering name v next no_trees) o.told b (numbers-entering name v next) below there open_gap.shows in
           let down : top.descendants ≡ size (entering_below name v next) = ap (λ (w : NodeRow). w.descendants) is.top_is in
           let shown_is = ap (shown local_hash) (top-entering name v next)
           ∙ shown-tree (entering_top name v next) (entering_below name v next) new.path (row_of top) tree is.top_is (number-entering name v next ∙ sym is.number) is.nodes_are is.hash in
           mended local_hash number at.frames at.frame at.left at.olds (entering name v next no_trees) at.right is_gap.parent is_gap.left is_gap.right is_gap.old_is shown_is is_gap.few
-          (omega (arith, is.fits, is.nodes_are, down, nodes-entering name v next)) all,
+          (omega (arith, is.fits, is.nodes_are, down, nodes-entering name v next)) open_gap.around all,
     )
 
 pub down-entering : (name : Option (List ℕ)) (v : Value) (next path : ℕ) (top : NodeRecord) → row_of top ≡ top_row path (entering_top name v next) (entering_below name v next) → top.descendants + 1 ≡ entering_nodes name v
@@ -162,17 +163,17 @@ down-entering name v next path top is = omega (arith, ap (λ (w : NodeRow). w.de
 
 -- ---- what stops it
 
-module _ (next : ℕ) (gap : Gap) (old : Option Tree) (new : Entering) (o : Kept) where
-  pub growing-stops : (e : EditFault) → StopsGrowing (entering_paths new.name new.value next) new.path (nodes new.value) new.had o.table e → StopsFilling next gap old new o e
+module _ (next : ℕ) (gap : Gap) (rim : Rim) (old : Option Tree) (new : Entering) (o : Kept) where
+  pub growing-stops : (e : EditFault) → StopsGrowing (entering_paths new.name new.value next) new.path (nodes new.value) new.had o.table e → StopsFilling next gap rim old new o e
   unfolding StopsFilling StopsGrowing
   growing-stops e stops at listed count steps is_gap lists is_at stands room shows = stops listed count steps lists is_at room
 
-  pub memory-stops_filling : {A : Type 0} (r : Result A EditFault) → IsErrAnd r (λ e. e ≡ OutOfMemory) → IfErr r (StopsFilling next gap old new o)
+  pub memory-stops_filling : {A : Type 0} (r : Result A EditFault) → IsErrAnd r (λ e. e ≡ OutOfMemory) → IfErr r (StopsFilling next gap rim old new o)
   unfolding StopsFilling
   memory-stops_filling (Ok x) is = absurd is
   memory-stops_filling (Err e) is = λ at listed count steps is_gap lists is_at stands room shows. subst (Stops new.had listed (entering_paths new.name new.value next steps)) (sym is) tt
 
-  mend_fault : (a : Kept) (fault : Fault) → (IsDamaged fault → IsFilled next gap old new o (kept None a.table)) → StopsFilling next gap old new o (edit_fault fault)
+  mend_fault : (a : Kept) (fault : Fault) → (IsDamaged fault → IsFilled next gap rim old new o (kept None a.table)) → StopsFilling next gap rim old new o (edit_fault fault)
   unfolding StopsFilling IsFilled
   mend_fault a faults.Failed cannot at listed count steps is_gap lists is_at stands room shows = tt
   mend_fault a (faults.Damaged d) cannot at listed count steps is_gap lists is_at stands room shows =
@@ -183,6 +184,6 @@ module _ (next : ℕ) (gap : Gap) (old : Option Tree) (new : Entering) (o : Kept
       absurd ((filled_none.1 (number_of (with_paths listed paths)) numbers known.0 known.1).holds)
   mend_fault a faults.OutOfMemory cannot at listed count steps is_gap lists is_at stands room shows = tt
 
-  pub mending-stops : {A : Type 0} (a : Kept) (r : Result A EditFault) (fault : Fault) → IsErrAnd r (λ e. e ≡ edit_fault fault) → (IsDamaged fault → IsFilled next gap old new o (kept None a.table)) → IfErr r (StopsFilling next gap old new o)
+  pub mending-stops : {A : Type 0} (a : Kept) (r : Result A EditFault) (fault : Fault) → IsErrAnd r (λ e. e ≡ edit_fault fault) → (IsDamaged fault → IsFilled next gap rim old new o (kept None a.table)) → IfErr r (StopsFilling next gap rim old new o)
   mending-stops a (Ok x) fault is cannot = absurd is
-  mending-stops a (Err e) fault is cannot = subst (StopsFilling next gap old new o) (sym is) (mend_fault a fault cannot)
+  mending-stops a (Err e) fault is cannot = subst (StopsFilling next gap rim old new o) (sym is) (mend_fault a fault cannot)

@@ -1,11 +1,16 @@
 -- One step of an edit after another.
-use Rattle.std.proofs.Common.{◌≡◌, ℕ, Bool, Option, inl, inr, ◌∙◌, arith}
-use Rattle.std.specs.Prelude.{Result, IfErr, IsErrAnd}
+use Rattle.std.proofs.Common.{◌≡◌, ℕ, Bool, Option, Some, None, inl, inr, refl, sym, subst, ◌∙◌, arith}
+use Rattle.std.specs.Prelude.{Result, IfErr, IfSome, IsErrAnd}
+use Rattle.sx_bytes.specs.declared.damage.Damage.{Damage}
+use Rattle.sx_tree.specs.declared.record.NodeRecord.{NodeRecord}
+use Rattle.sx_view.specs.Records.{RecordMap}
 use Rattle.sx_view.specs.declared.fault.Fault.{Fault}
 use Rattle.sx_view.specs.declared.fault.Fault.TheVariants.{Failed, Damaged, OutOfMemory}
 use Rattle.sx_outside.specs.Faults.{Rose}
-use Rattle.sx_edit.specs.Damage.{Explains, IsBreachFault}
+use Rattle.sx_edit.specs.Damage.{Explains, IsAbsent, IsBreachFault, IsBrokenFault, IsDamage, IsReached, IsRecord, LeadsTo, broken_link, endless}
+use Rattle.sx_edit.specs.Seen.{AreReached}
 use Rattle.sx_edit.specs.Steps.{GoesOn}
+use Rattle.sx_edit.specs.declared.trees.Gap.{Gap}
 use Rattle.sx_edit.proofs.Results.{err_again}
 
 module _ {V T : Type 0} (told : V → Option T) (faults : V → ℕ) (has_mark : V → Bool) (marks : V → V → Type 0) where
@@ -20,19 +25,85 @@ module _ {V T : Type 0} (told : V → Option T) (faults : V → ℕ) (has_mark :
     still_told = λ is. first.still_told (second.still_told is);
   }
 
-  -- a fault after steps that went on
-  pub explains_later : (next : ℕ) (a b c : V) (fault : Fault) → GoesOn told faults has_mark marks a b
+module _ {V : Type 0} (told : V → Option (RecordMap NodeRecord)) (faults : V → ℕ) (has_mark : V → Bool) (marks : V → V → Type 0) where
+  -- a fault after steps that went on, and changed no record
+  pub explains_later : (next : ℕ) (a b c : V) (fault : Fault) → GoesOn told faults has_mark marks a b → told b ≡ told a
       → Explains next (told b) (Rose (faults b) (faults c)) fault → Explains next (told a) (Rose (faults a) (faults c)) fault
-  explains_later next a b c Failed first is = omega (arith, first.never_falls)
-  explains_later next a b c (Damaged d) first (inl is) = inl (first.still_told is)
-  explains_later next a b c (Damaged d) first (inr is) = inr is
-  explains_later next a b c OutOfMemory first is = tt
+  explains_later next a b c Failed first same is = omega (arith, first.never_falls)
+  explains_later next a b c (Damaged d) first same is = subst (λ o. IsDamage next o d) same is
+  explains_later next a b c OutOfMemory first same is = tt
 
-  pub err-explains : {A : Type 0} (next : ℕ) (a b c : V) (r : Result A Fault) (fault : Fault) → IsErrAnd r (λ e. e ≡ fault) → GoesOn told faults has_mark marks a b
+  pub err-explains : {A : Type 0} (next : ℕ) (a b c : V) (r : Result A Fault) (fault : Fault) → IsErrAnd r (λ e. e ≡ fault) → GoesOn told faults has_mark marks a b → told b ≡ told a
       → Explains next (told b) (Rose (faults b) (faults c)) fault → IfErr r (Explains next (told a) (Rose (faults a) (faults c)))
-  err-explains next a b c r fault is first holds = err_again r fault _ is (explains_later next a b c fault first holds)
+  err-explains next a b c r fault is first same holds = err_again r fault _ is (explains_later next a b c fault first same holds)
 
-pub breach_explains : {T : Type 0} (next : ℕ) (told : Option T) (rose : Type 0) (fault : Fault) → IsBreachFault next fault → Explains next told rose fault
+pub breach_explains : (next : ℕ) (told : Option (RecordMap NodeRecord)) (rose : Type 0) (fault : Fault) → IsBreachFault told next fault → Explains next told rose fault
 breach_explains next told rose Failed is = absurd is
-breach_explains next told rose (Damaged d) is = inr is
+breach_explains next told rose (Damaged d) is = inr (inr is)
 breach_explains next told rose OutOfMemory is = absurd is
+
+pub broken_explains : (next : ℕ) (told : Option (RecordMap NodeRecord)) (rose : Type 0) (fault : Fault) → IsBrokenFault told next fault → Explains next told rose fault
+broken_explains next told rose Failed is = absurd is
+broken_explains next told rose (Damaged d) is = inr (inl is)
+broken_explains next told rose OutOfMemory is = absurd is
+
+-- links lead on
+pub endless_explains : (next : ℕ) (told : Option (RecordMap NodeRecord)) (damage : Damage) → damage ≡ endless next → IsDamage next told damage
+endless_explains next told damage is = inr (inl (inr (inl is)))
+
+-- a link leads to no record
+pub lost_link : (next : ℕ) (o : Option (RecordMap NodeRecord)) (from to : ℕ) (damage : Damage) → IsReached o from to → IsAbsent o to → damage ≡ broken_link from to → IsDamage next o damage
+lost_link next None from to damage reached none is = inl refl
+lost_link next (Some m) from to damage (inl leads) none is = inr (inl (inl (from, (to, (leads, none, is)))))
+lost_link next (Some m) from to damage (inr there) none is = absurd (let e : Some there.0 ≡ None = sym (there.1 m refl) ∙ none m refl in cc)
+
+-- what is reached in the same records
+pub reached-there : (o now : Option (RecordMap NodeRecord)) (from : ℕ) (node : Option ℕ) → now ≡ o → IfSome node (λ to. IsReached o from to) → IfSome node (λ to. IsReached now from to)
+reached-there o now from node same = subst (λ q. IfSome node (λ to. IsReached q from to)) (sym same)
+
+pub leads-there : (o now : Option (RecordMap NodeRecord)) (from : ℕ) (node : Option ℕ) → now ≡ o → IfSome node (λ to. LeadsTo o from to) → IfSome node (λ to. LeadsTo now from to)
+leads-there o now from node same = subst (λ q. IfSome node (λ to. LeadsTo q from to)) (sym same)
+
+pub leads-one : (o : Option (RecordMap NodeRecord)) (from to : ℕ) (node : Option ℕ) → node ≡ Some to → IfSome node (λ to. LeadsTo o from to) → LeadsTo o from to
+leads-one o from to node is = subst (λ n. IfSome n (λ to. LeadsTo o from to)) is
+
+pub reached-one : (o : Option (RecordMap NodeRecord)) (from to : ℕ) (node : Option ℕ) → node ≡ Some to → IfSome node (λ to. IsReached o from to) → IsReached o from to
+reached-one o from to node is = subst (λ n. IfSome n (λ to. IsReached o from to)) is
+
+-- the links of a record that was read
+module _ (o : Option (RecordMap NodeRecord)) (k : ℕ) (r : NodeRecord) (there : IsRecord o k r) where
+  pub leads-parent : (to : Option ℕ) → r.parent ≡ to → IfSome to (λ to. LeadsTo o k to)
+  leads-parent None is = tt
+  leads-parent (Some to) is = (r, (there, inl is))
+
+  pub leads-left : (to : Option ℕ) → r.left ≡ to → IfSome to (λ to. LeadsTo o k to)
+  leads-left None is = tt
+  leads-left (Some to) is = (r, (there, inr (inl is)))
+
+  pub leads-right : (to : Option ℕ) → r.right ≡ to → IfSome to (λ to. LeadsTo o k to)
+  leads-right None is = tt
+  leads-right (Some to) is = (r, (there, inr (inr (inl is))))
+
+  pub leads-first : (to : Option ℕ) → r.first ≡ to → IfSome to (λ to. LeadsTo o k to)
+  leads-first None is = tt
+  leads-first (Some to) is = (r, (there, inr (inr (inr (inl is)))))
+
+  pub leads-last : (to : Option ℕ) → r.last ≡ to → IfSome to (λ to. LeadsTo o k to)
+  leads-last None is = tt
+  leads-last (Some to) is = (r, (there, inr (inr (inr (inr is)))))
+
+pub leads-reached : (o : Option (RecordMap NodeRecord)) (k : ℕ) (node : Option ℕ) → IfSome node (λ to. LeadsTo o k to) → IfSome node (λ to. IsReached o k to)
+leads-reached o k None leads = tt
+leads-reached o k (Some to) leads = inl leads
+
+pub record-there : (o now : Option (RecordMap NodeRecord)) (k : ℕ) (r : NodeRecord) → now ≡ o → IsRecord o k r → IsRecord now k r
+record-there o now k r same = subst (λ q. IsRecord q k r) (sym same)
+
+pub reached-parent : (o now : Option (RecordMap NodeRecord)) (from to : ℕ) → now ≡ o → IsReached o from to → IsReached now from to
+reached-parent o now from to same = subst (λ q. IsReached q from to) (sym same)
+
+pub leads-same : (o : Option (RecordMap NodeRecord)) (from at : ℕ) (node : Option ℕ) → from ≡ at → IfSome node (λ to. LeadsTo o from to) → IfSome node (λ to. LeadsTo o at to)
+leads-same o from at node is = subst (λ k. IfSome node (λ to. LeadsTo o k to)) is
+
+pub gap-there : (o now : Option (RecordMap NodeRecord)) (gap : Gap) → now ≡ o → AreReached o gap → AreReached now gap
+gap-there o now gap same = subst (λ q. AreReached q gap) (sym same)

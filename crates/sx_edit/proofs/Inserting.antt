@@ -27,7 +27,10 @@ use Rattle.sx_model.proofs.Holes.{or_none, rows-beside, rows-plug}
 use Rattle.sx_model.proofs.Plugging.{above, fit_back}
 use Rattle.sx_edit.specs.declared.fault.EditFault.{EditFault}
 use Rattle.sx_edit.specs.declared.fault.EditFault.TheVariants.{Refused}
+use Rattle.sx_edit.specs.declared.trees.Rim.{Rim}
 use Rattle.sx_edit.specs.declared.trees.Target.{Target}
+use Rattle.sx_edit.specs.Seen.{CannotSurvey, IsRim}
+use Rattle.sx_edit.proofs.Rimming.{around-of, survey-cannot}
 use Rattle.sx_edit.specs.Answers.{AreOf, Answers, AnswersEach, IsTableOf}
 use Rattle.sx_edit.specs.Grow.{top_of, trees_below}
 use Rattle.sx_edit.specs.Pathways.{HasAll, IsOnto, IsPathAt, Kept, Lists, Stops, StopsOnto, kept, own_of, paths_under}
@@ -41,7 +44,7 @@ use Rattle.sx_edit.specs.Names.{FindsKey}
 use Rattle.sx_edit.specs.Places.{ChecksChildren, FindsTaken, IsNoPlace, IsPlace, IsPlaceAt, has_places, step_into}
 use Rattle.sx_edit.specs.Room.{nodes_of, IsSite, MakesRoom, Passes}
 use Rattle.sx_edit.specs.Told.{Shows, numbers_of}
-use Rattle.sx_edit.proofs.Answering.{again-answers, had-paths}
+use Rattle.sx_edit.proofs.Answering.{IsNoState, again-answers, had-paths}
 use Rattle.sx_edit.proofs.Coming.{IsComing, coming-done, coming-stops, entering-tree, onto-answers}
 use Rattle.sx_edit.proofs.Pathing.{all-back, all-front, listed-base, lists-as, more-none, numbers-back, with-twice}
 use Rattle.sx_edit.proofs.Sited.{fit_inside, sited}
@@ -235,11 +238,11 @@ fewer None v = omega arith
 fewer (Some name) v = omega arith
 
 module _ (place : Place) (name : Option (List ℕ)) (v : Value) (next : ℕ) (target : Target) (o : Option (RecordMap NodeRecord)) (is_place : IsPlace place next o target) where
-  place-at : (state : State) → AreOf state next o → IsPlaceAt place state target
+  pub place-at : (state : State) → AreOf state next o → IsPlaceAt place state target
   unfolding IsPlace
   place-at state are = is_place state are
 
-  site : (state : State) (are : AreOf state next o) (at : IsPlaceAt place state target) → IsSite target.gap.parent next o at.frames at.frame (beside at.left at.right)
+  pub site : (state : State) (are : AreOf state next o) (at : IsPlaceAt place state target) → IsSite target.gap.parent next o at.frames at.frame (beside at.left at.right)
   site state are at = record {
     number = at.number;
     paths = number_of state.paths;
@@ -310,6 +313,15 @@ module _ (place : Place) (name : Option (List ℕ)) (v : Value) (next : ℕ) (ta
       (λ told stands. after-check state are at checked checks
       ∙ either (too_deep (nodes_of (at.frame ∷ at.frames)) v) (numbers_spent state (more_below at.frame.node.kind)) (last_refusals state at.frame.node.kind) (left_with state at.frame.node.kind) told stands))
 
+  -- what stands around the place can be read
+  pub place-cannot : (now : Option (RecordMap NodeRecord)) → now ≡ o → CannotSurvey next target.gap now → IsNoState next o
+  unfolding IsNoState
+  place-cannot now same cannot state are =
+      let at = place-at state are in
+      let few : size (plug (at.frame ∷ at.frames) (beside at.left at.right)) ≤ next = subst (λ t. size t ≤ next) at.stands are.few in
+      survey-cannot local_hash (number_of state.paths) at.frames at.frame at.left no_trees at.right target.gap o at.number at.last at.first
+      (subst (λ t. Shows o (rows_in (number_of state.paths) t)) at.stands (shows-state state next o are)) next few (subst (CannotSurvey next target.gap) same cannot)
+
   -- the refusals for the name
   abbrev name_refusals : Kind → Option EditRefusal
   name_refusals kind = option_or (when (is_object kind && is_none name) NameMissing) (when (not (is_object kind) && is_some name) NameUnasked)
@@ -325,8 +337,9 @@ module _ (place : Place) (name : Option (List ℕ)) (v : Value) (next : ℕ) (ta
       ∙ either (when (is_object at.frame.node.kind && is_none name) NameMissing) (when (not (is_object at.frame.node.kind) && is_some name) NameUnasked) (paths_spent state (left_with state at.frame.node.kind) ∷ []) (left_with state at.frame.node.kind) refusal (sym (ap name_refusals at.kind) ∙ named)
 
   -- what was checked before the value came to the place
-  pub record IsInserting (told : Option (RecordMap NodeRecord)) (table : List PathRow) (had count : ℕ) : Type 0 where
+  pub record IsInserting (told : Option (RecordMap NodeRecord)) (table : List PathRow) (had count : ℕ) (rim : Rim) : Type 0 where
     pub told_is : told ≡ o
+    pub rimmed : IsRim o target.gap rim
     pub checked : ChecksChildren {T = ℕ} next target name o (Ok 0)
     pub count_is : count ≡ more_below target.kind
     pub makes : MakesRoom {T = ℕ} next target.gap.parent v count o (Ok 0)
@@ -334,12 +347,13 @@ module _ (place : Place) (name : Option (List ℕ)) (v : Value) (next : ℕ) (ta
     pub had_is : had ≡ min (length table) (2 ^ 32 - 1)
     pub room : next + entering_nodes name v ≤ 2 ^ 30
 
-  pub inserting-after : {S T : Type 0} (now told : Option (RecordMap NodeRecord)) (table : List PathRow) (had count : ℕ) (checked : S) (done : T) → told ≡ o → ChecksChildren next target name o (passed checked) → now ≡ o
+  pub inserting-after : {S T : Type 0} (now told : Option (RecordMap NodeRecord)) (table : List PathRow) (had count : ℕ) (rim : Rim) (checked : S) (done : T) → told ≡ o → IsRim o target.gap rim → ChecksChildren next target name o (passed checked) → now ≡ o
       → count ≡ more_below target.kind → MakesRoom next target.gap.parent v count now (passed done) → name_refusals target.kind ≡ None → had ≡ min (length table) (2 ^ 32 - 1) → next + entering_nodes name v ≤ 2 ^ 30
-      → IsInserting told table had count
+      → IsInserting told table had count rim
   unfolding ChecksChildren MakesRoom
-  inserting-after now told table had count checked done told_is checks same count_is makes named had_is room = record {
+  inserting-after now told table had count rim checked done told_is rimmed checks same count_is makes named had_is room = record {
     told_is = told_is;
+    rimmed = rimmed;
     checked = λ frames frame inside there kind first. checks frames frame inside there kind first;
     count_is = count_is;
     makes = λ frames frame inside state next_is there. (subst (λ q. MakesRoom next target.gap.parent v count q (passed done)) same makes) frames frame inside state next_is there;
@@ -348,7 +362,7 @@ module _ (place : Place) (name : Option (List ℕ)) (v : Value) (next : ℕ) (ta
     room = room;
   }
 
-  module _ (told : Option (RecordMap NodeRecord)) (table : List PathRow) (had count : ℕ) (is : IsInserting told table had count) where
+  module _ (told : Option (RecordMap NodeRecord)) (table : List PathRow) (had count : ℕ) (rim : Rim) (is : IsInserting told table had count rim) where
     -- the edit of the state, but for its paths
     insert-free : (state : State) (are : AreOf state next o) (at : IsPlaceAt place state target)
         → apply (insert place name v) state ≡ unless (paths_spent state (left_with state at.frame.node.kind) ∷ []) (left_with state at.frame.node.kind)
@@ -394,7 +408,7 @@ module _ (place : Place) (name : Option (List ℕ)) (v : Value) (next : ℕ) (ta
         (subst (λ q. Stops had state.paths ((step_into q name ∷ path) ∷ []) e) at.kind (stops state.paths _ path of_state.lists (record { base = step.base; is = at.path })))
 
     inserting : (path : ℕ) (mid : List PathRow) (state : State) (are : AreOf state next o) (of_state : IsTableOf state table) (at : IsPlaceAt place state target) → IsOnto target.path (step_into target.kind name) path table mid
-        → IsComing state next target.gap None name v path (kept told mid) (left_with state at.frame.node.kind).trees
+        → IsComing state next target.gap rim None name v path (kept told mid) (left_with state at.frame.node.kind).trees
     unfolding IsOnto
     inserting path mid state are of_state at onto =
         let kind : Kind = at.frame.node.kind in
@@ -426,31 +440,34 @@ module _ (place : Place) (name : Option (List ℕ)) (v : Value) (next : ℕ) (ta
           back = site.behind;
           room = counts-room (paths_left (at.frame ∷ at.frames) at.left) [] (paths_right (at.frame ∷ at.frames) at.right) state.trees (nodes v) next site.paths_are are.few (omega (arith, is.room, fewer name v));
           shows = λ number numbers_are.
-              let rows_are = opened-rows number at.frames at.frame at.left at.right in (
+              let rows_are = opened-rows number at.frames at.frame at.left at.right in
+              let there = renumbered number table state.paths _ whole o of_state.lists (numbers-back number state.paths (here ∷ []) numbers_are) fit (subst (λ t. HasAll state.paths (paths_in t)) at.stands of_state.listed)
+              (subst (λ t. Shows o (rows_in (number_of state.paths) t)) at.stands (shows-state state next o are)) in (
                 subst (AreBelow next) (sym (numbers-rows local_hash number _ whole) ∙ ap numbers_of rows_are) below,
-                subst (Shows told) rows_are (subst (λ q. Shows q (rows_in number whole)) (sym is.told_is)
-                    (renumbered number table state.paths _ whole o of_state.lists (numbers-back number state.paths (here ∷ []) numbers_are) fit (subst (λ t. HasAll state.paths (paths_in t)) at.stands of_state.listed)
-                    (subst (λ t. Shows o (rows_in (number_of state.paths) t)) at.stands (shows-state state next o are)))),
+                record {
+                  around = around-of local_hash number at.frames at.frame at.left no_trees at.right target.gap o at.number at.last at.first there rim is.rimmed;
+                  shows = subst (Shows told) rows_are (subst (λ q. Shows q (rows_in number whole)) (sym is.told_is) there);
+                },
               );
         }
 
-    pub insert-done : (path more : ℕ) (mid : List PathRow) (after : Kept) → more ≡ count → IsOnto target.path (step_into target.kind name) path table mid → IsFilled next target.gap None (enters name v path had) (kept told mid) after
+    pub insert-done : (path more : ℕ) (mid : List PathRow) (after : Kept) → more ≡ count → IsOnto target.path (step_into target.kind name) path table mid → IsFilled next target.gap rim None (enters name v path had) (kept told mid) after
         → AnswersEach (insert place name v) next (kept o table) after (Ok (record { first = Some next; next = next + more }))
     unfolding AnswersEach
     insert-done path more mid after more_is onto fills state are of_state =
         let at = place-at state are in
         let kind : Kind = at.frame.node.kind in
         let new : State = left_with state kind in
-        let came = coming-done state next (more_below kind) had target.gap None name v path (kept told mid) new.trees (inserting path mid state are of_state at onto) after fills in
+        let came = coming-done state next (more_below kind) had target.gap rim None name v path (kept told mid) new.trees (inserting path mid state are of_state at onto) after fills in
         let more_there : more ≡ more_below kind = more_is ∙ is.count_is ∙ ap more_below at.kind in
         let number_is : next + more ≡ state.next + more_below kind = (λ i. sym are.next_is i + more_there i) in
         (new, insert-free state are at ∙ came.0, (λ i. record { first = Some (sym are.next_is i); next = number_is i }), came.1, came.2)
 
-    pub insert-stops : (path : ℕ) (mid : List PathRow) (after : Kept) (e : EditFault) → IsOnto target.path (step_into target.kind name) path table mid → StopsFilling next target.gap None (enters name v path had) (kept told mid) e
+    pub insert-stops : (path : ℕ) (mid : List PathRow) (after : Kept) (e : EditFault) → IsOnto target.path (step_into target.kind name) path table mid → StopsFilling next target.gap rim None (enters name v path had) (kept told mid) e
         → AnswersEach (insert place name v) next (kept o table) after (Err e)
     unfolding AnswersEach
     insert-stops path mid after e onto stops state are of_state =
         let at = place-at state are in
         let kind : Kind = at.frame.node.kind in
-        coming-stops state next (more_below kind) had target.gap None name v path (kept told mid) (left_with state kind).trees (inserting path mid state are of_state at onto) (insert place name v) after e
+        coming-stops state next (more_below kind) had target.gap rim None name v path (kept told mid) (left_with state kind).trees (inserting path mid state are of_state at onto) (insert place name v) after e
         (had-paths had table state is.had_is of_state) (insert-free state are at) stops

@@ -5,7 +5,9 @@ mod Finding
 mod Shifts
 pub mod Climbing
 pub mod Failing
+pub mod Upward
 pub mod Showing
+pub mod Batching
 pub mod Standing
 pub mod Relabeling
 pub mod Seeking
@@ -15,6 +17,7 @@ pub mod Clearing
 pub mod Siblings
 pub mod Refilling
 pub mod Mending
+pub mod Rimming
 pub mod Adding
 pub mod TreePaths
 pub mod Growing
@@ -35,3 +38,4 @@ pub mod Replacing
 pub mod Placing
 pub mod Inserting
 pub mod DocumentChild
+pub mod Getting

@@ -1,5 +1,5 @@
 -- Keys of a name, one sibling after the other.
-use Rattle.std.proofs.Common.{◌≡◌, ℕ, ◌-◌, Bool, true, false, cond, List, ◌∷◌, ◌++◌, Option, Some, None, refl, sym, ap, subst, ◌∙◌, arith, append_assoc}
+use Rattle.std.proofs.Common.{◌≡◌, ℕ, ◌+◌, ◌-◌, ◌≤◌, Bool, true, false, cond, List, ◌∷◌, ◌++◌, Option, Some, None, refl, sym, ap, subst, ◌∙◌, arith, append_assoc}
 use Rattle.std.specs.Prelude.{option_map, find}
 use Rattle.std.specs.Option.{option_or, ForSome}
 use Rattle.std.specs.FinMap as fin
@@ -12,6 +12,7 @@ use Rattle.sx_model.specs.Tree.{Node, Forest, no_trees, tree_then, tops}
 use Rattle.sx_model.specs.Records.{Around, NodeRow, around_children, first_of, row, rows}
 use Rattle.sx_model.proofs.Holes.{or_none}
 use Rattle.sx_edit.specs.Told.{Shows}
+use Rattle.sx_edit.specs.Gets.{GetsKeys}
 use Rattle.sx_edit.specs.Names.{is_sought, FindsKey}
 use Rattle.sx_edit.proofs.Climbing.{some_is}
 use Rattle.sx_edit.proofs.Showing.{shows-get}
@@ -76,3 +77,27 @@ finds-next except name first k limit fewer r o answer is found other one_less mo
     let first_is = find-first (λ m. is_sought except name m.number m.kind m.label) n (tops rest) false here in
     more local number beyond rest (xs ++ head) ys right last (omega arith) (subst (Shows o) regrouped shows)
     ∙ sym (ap (λ q. Some (option_map (λ (m : Node). m.number) q)) first_is)
+
+-- ---- gets
+
+pub keys-none : (first : Option ℕ) (limit : ℕ) (o : Option (RecordMap NodeRecord)) (gets : ℕ) → GetsKeys first limit o gets gets
+unfolding GetsKeys
+keys-none first limit o gets local number around trees xs ys begin last few shows = omega arith
+
+pub keys-here : (first : Option ℕ) (k limit : ℕ) (o : Option (RecordMap NodeRecord)) (old new : ℕ) → first ≡ Some k → new ≤ old + 1 → GetsKeys first limit o old new
+unfolding GetsKeys
+keys-here first k limit o old new is once local number around no_trees xs ys begin last few shows = absurd cc
+keys-here first k limit o old new is once local number around (tree_then n below rest) xs ys begin last few shows = omega arith
+
+pub keys-next : (first : Option ℕ) (k limit fewer : ℕ) (r : NodeRecord) (o : Option (RecordMap NodeRecord)) (old mid new : ℕ) → first ≡ Some k → ForSome o (λ m. fin.get m k ≡ Some r) → limit - 1 ≡ fewer → mid ≤ old + 1
+    → GetsKeys r.right fewer o mid new → GetsKeys first limit o old new
+unfolding GetsKeys
+keys-next first k limit fewer r o old mid new is found one_less once more local number around no_trees xs ys begin last few shows = absurd cc
+keys-next first k limit fewer r o old mid new is found one_less once more local number around (tree_then n below rest) xs ys begin last few shows =
+    let known = some_is _ _ (first-there first k (Some r) o local number around n below rest xs ys is found begin shows) in
+    let beyond : Around = record around { left = Some n.number } in
+    let right : first_of rest ≡ r.right = sym (ap (λ (w : NodeRow). w.right) known ∙ ap (option_or (first_of rest)) last ∙ or_none _) in
+    let head : List (ℕ × NodeRow) = (n.number, row local number (record around { right = option_or (first_of rest) around.right }) n below) ∷ rows local number (around_children around n) below in
+    let regrouped : xs ++ (rows local number around (tree_then n below rest) ++ ys) ≡ (xs ++ head) ++ (rows local number beyond rest ++ ys) = simp append_assoc in
+    let others = more local number beyond rest (xs ++ head) ys right last (omega arith) (subst (Shows o) regrouped shows) in
+    omega (arith, others, once)

@@ -1,6 +1,6 @@
 -- A Key of a state that gets another name, with all below it on other paths.
 use Rattle.std.proofs.Common.{◌≡◌, ℕ, ◌+◌, ◌≤◌, ◌<◌, true, List, [], ◌∷◌, ◌++◌, length, Option, Some, None, refl, sym, ap, subst, ◌∙◌, arith, append_assoc, append-nil}
-use Rattle.std.specs.Prelude.{◌^◌, ◌-◌, IsTrue, Ok, Err, min, option_map}
+use Rattle.std.specs.Prelude.{◌^◌, ◌-◌, IsTrue, Ok, Err, min, option_map, reverse}
 use Rattle.std.specs.Option.{ForSome, option_or}
 use Rattle.std.specs.FinMap as fin
 use Rattle.sx_tree.specs.declared.record.Kind.{Kind}
@@ -24,13 +24,16 @@ use Rattle.sx_edit.specs.Edited.{IsRelabeled, Standing, labeled, rows_in, rows_w
 use Rattle.sx_edit.specs.Holes.{before_own, behind_own, own_row}
 use Rattle.sx_edit.specs.Pathways.{HasAll, IsOnto, IsPathAt, IsStart, Kept, Lists, Numbers, StopsOnto, kept, more_on, own_of, own_path, paths_under}
 use Rattle.sx_edit.specs.Repath.{Agree, BeginAll, Branch, IsRepathed, ShowsBranches, StopsRepathing, first_goals, new_paths, new_rows, old_paths, old_rows}
-use Rattle.sx_edit.specs.Told.{Moment, Shows}
+use Rattle.sx_edit.specs.Seen.{IsChain, entries_of, upward, with_records}
+use Rattle.sx_edit.specs.Told.{Shows, numbers_of}
+use Rattle.sx_edit.specs.declared.trees.Seen.{Seen}
 use Rattle.sx_edit.proofs.Answering.{had-paths, stops-answers}
-use Rattle.sx_edit.proofs.Climbing.{some_is}
+use Rattle.sx_edit.proofs.Batching.{shows-with}
+use Rattle.sx_edit.proofs.Climbing.{numbers-rows, some_is}
 use Rattle.sx_edit.proofs.Looking.{IsSeen}
 use Rattle.sx_edit.proofs.NewNames.{kind-key}
 use Rattle.sx_edit.proofs.Pathing.{all-back, all-front, listed-base, lists-here, numbers-back, own-numbers, path-with, with-twice}
-use Rattle.sx_edit.proofs.Relabeling.{deep-plug, size-beside}
+use Rattle.sx_edit.proofs.Relabeling.{deep-plug, size-beside, standing-rows}
 use Rattle.sx_edit.proofs.Repathing.{begin-branch, key-first, new-paths, new-rows, old-paths, old-rows, sizes-branch, with_branch}
 use Rattle.sx_edit.proofs.SettingScalars.{rows-standing, seen, standing}
 use Rattle.sx_edit.proofs.Sited.{fit_inside, sited}
@@ -166,6 +169,15 @@ module _ (k : ℕ) (name : List ℕ) (next : ℕ) (r p : NodeRecord) (parent pat
       (λ many. is_apply state are ∙ paths-full state 0 (renamed state).trees (paths_left s.at.around s.at.left) all (paths_right s.at.around s.at.right) is.paths_are is.front is.back many)
       (stops-among had state.paths [] (new ∷ []) is.rest all e is.new_are (stops state.paths _ (around_hole s.at.around).path of_state.lists is.named.start))
 
+  -- the rows of the trees with the Key, by other numbers
+  key-shows : (state : State) (are : AreOf state next o) (of_state : IsTableOf state table) (s : IsSeen k state o r) (number : List Step → ℕ) → Numbers number state.paths
+      → Shows o (rows_with number (standing s) (number (own_path (around_hole s.at.around) s.at.node)) (rows local_hash number (around_children (around_hole s.at.around) s.at.node) s.at.below))
+  key-shows state are of_state s number numbers =
+      let at : Standing = standing s in
+      let fit = subst (FitBelow None) s.at.stands are.well_formed.fit in
+      let shows = renumbered number table state.paths _ (trees_around at) o of_state.lists numbers fit (subst (λ t. HasAll state.paths (paths_in t)) s.at.stands of_state.listed) s.shows in
+      subst (Shows o) (rows-standing number at) shows
+
   module _ (onto : IsOnto p.path (Name name) path table mid) where
     -- the branch below the Key, once its path is there
     record IsBranched (state : State) (s : IsSeen k state o r) : Type 0 where
@@ -189,69 +201,78 @@ module _ (k : ℕ) (name : List ℕ) (next : ℕ) (r p : NodeRecord) (parent pat
           with_is = ap (with_paths (with_paths state.paths (new ∷ []))) (new-paths inner s.at.below new [] ∙ is.new_are) ∙ with-twice state.paths new is.rest ∙ ap (with_paths state.paths) (sym is.new_are);
         }
 
-    module _ (label : List ℕ) (old new : Moment) (told_is : old.told ≡ o) (label_is : label ≡ name) (relabeled : IsRelabeled k Key label path old new) where
+    -- the records of the trees below the Key, before it has its name
+    branch-shown : (state : State) (are : AreOf state next o) (of_state : IsTableOf state table) (s : IsSeen k state o r) (is : IsNaming state s) (on : IsBranched state s) (number : List Step → ℕ) → Numbers number state.paths
+        → ShowsBranches o (first_goals Key path r.first) next (with_paths state.paths ((Name name ∷ (around_hole s.at.around).path) ∷ [])) (with_branch (around_children (around_hole s.at.around) s.at.node) s.at.below (Name name ∷ (around_hole s.at.around).path) [])
+    branch-shown state are of_state s is on number numbers =
+        let frames : List Frame = s.at.around in
+        let n : Node = s.at.node in
+        let below : Forest = s.at.below in
+        let inner : Around = around_children (around_hole frames) n in
+        let step : List Step = Name name ∷ (around_hole frames).path in
+        let listed : List (List Step) = with_paths state.paths (step ∷ []) in
+        let branches : List Branch = with_branch inner below step [] in
+        let own = key-shows state are of_state s number numbers in
+        let front : List (ℕ × NodeRow) = before_own local_hash number frames (shown local_hash (beside s.at.left (tree_then n below s.at.right))) s.at.left n.number in
+        let back : List (ℕ × NodeRow) = behind_own local_hash number frames (shown local_hash (beside s.at.left (tree_then n below s.at.right))) n.number s.at.right in
+        let own_here : ℕ × NodeRow = (n.number, record (own_row local_hash number frames s.at.left n below s.at.right) { path = number (own_path (around_hole frames) n) }) in
+        let rows_are : old_rows local_hash number branches ≡ rows local_hash number inner below = old-rows local_hash number inner below step [] ∙ append-nil (rows local_hash number inner below) in
+        let group : front ++ own_here ∷ (rows local_hash number inner below ++ back) ≡ (front ++ own_here ∷ []) ++ (rows local_hash number inner below ++ back) = simp append_assoc in
+        let few : size (trees_around (standing s)) ≤ next = subst (λ t. size t ≤ next) s.at.stands are.few in
+        let deep = deep-plug frames (beside s.at.left (tree_then s.at.node below s.at.right)) in
+        let parts = size-beside s.at.left (tree_then s.at.node below s.at.right) in
+        record {
+          local = local_hash;
+          number = number;
+          front = front ++ own_here ∷ [];
+          back = back;
+          begin = subst (λ f. BeginAll listed branches (first_goals Key path f)) (sym (ap (λ (w : NodeRow). w.first) s.row))
+              (begin-branch listed inner below step [] Key path [] (record { last = refl; kind_is = ap (λ q. Some q) is.key_is; at = on.at; fit = is.fit_below }) tt);
+          few = omega (arith, sizes-branch inner below step []);
+          shows = subst (λ l. Shows o ((front ++ own_here ∷ []) ++ (l ++ back))) (sym rows_are) (subst (Shows o) group own);
+          numbers_are = subst (Agree number listed) (sym (old-paths inner below step [])) (agree-all number state.paths (step ∷ []) _ numbers is.inner);
+        }
+
+    pub repath-stops : (after : Kept) (e : EditFault) → next ≤ 2 ^ 30 → ((state : State) → AreOf state next o → apply (rename k name) state ≡ unless (paths_spent state (renamed state) ∷ []) (renamed state))
+        → StopsRepathing (first_goals Key path r.first) next had (kept o mid) e → AnswersEach (rename k name) next (kept o table) after (Err e)
+    unfolding AnswersEach StopsRepathing
+    repath-stops after e fits is_apply stops state are of_state =
+        let s = seen k state next o r are there in
+        let is = naming state are of_state s fits in
+        let on = branched state are of_state s is in
+        let step : List Step = Name name ∷ (around_hole s.at.around).path in
+        let all : List (List Step) = paths_below (Some s.at.node) step s.at.below ++ [] in
+        let branches : List Branch = with_branch (around_children (around_hole s.at.around) s.at.node) s.at.below step [] in
+        let shown_here = branch-shown state are of_state s is on (number_of state.paths) (own-numbers table state.paths _ of_state.lists) in
+        let stopped = stops (with_paths state.paths (step ∷ [])) (counts_around (paths_left s.at.around s.at.left) (paths_right s.at.around s.at.right)) branches shown_here on.lists (λ other. omega (arith, is.room other, shown_here.few)) in
+        stops-answers (rename k name) state after had all e (had-paths had table state had_is of_state)
+        (λ many. is_apply state are ∙ paths-full state 0 (renamed state).trees (paths_left s.at.around s.at.left) all (paths_right s.at.around s.at.right) is.paths_are is.front is.back many)
+        (stops-same had (with_paths state.paths (step ∷ [])) state.paths (new_paths branches) all e (ap length on.with_is) stopped)
+
+    -- the Key got its name, and the nodes below it their paths
+    pub record IsRenaming (label : List ℕ) (above : List Seen) (moved : List Seen) (now half after : Option (RecordMap NodeRecord)) : Type 0 where
+      pub now_is : now ≡ o
+      pub chain : IsChain o (Some parent) (reverse above)
+      pub label_is : label ≡ name
+      pub relabeled : IsRelabeled k Key label path (upward above) now half
+      pub put : after ≡ option_map (with_records moved) half
+
+    module _ (label : List ℕ) (above moved : List Seen) (now half told : Option (RecordMap NodeRecord)) (renaming : IsRenaming label above moved now half told) where
       -- the records once the Key has its name
       relabeled-shows : (state : State) (are : AreOf state next o) (of_state : IsTableOf state table) (s : IsSeen k state o r) (number : List Step → ℕ) → Numbers number state.paths
-          → Shows new.told (rows_with number (labeled (standing s) Key name) path (rows local_hash number (around_children (around_hole s.at.around) s.at.node) s.at.below))
+          → Shows half (rows_with number (labeled (standing s) Key name) path (rows local_hash number (around_children (around_hole s.at.around) s.at.node) s.at.below))
       unfolding IsRelabeled
       relabeled-shows state are of_state s number numbers =
           let at : Standing = standing s in
           let inner_rows : List (ℕ × NodeRow) = rows local_hash number (around_children (around_hole s.at.around) s.at.node) s.at.below in
-          let fit = subst (FitBelow None) s.at.stands are.well_formed.fit in
-          let shows = renumbered number table state.paths _ (trees_around at) o of_state.lists numbers fit (subst (λ t. HasAll state.paths (paths_in t)) s.at.stands of_state.listed) s.shows in
-          let own = subst (λ q. Shows q (rows_with number at (number (own_path (around_hole s.at.around) s.at.node)) inner_rows)) (sym told_is) (subst (Shows o) (rows-standing number at) shows) in
-          subst (λ l. Shows new.told (rows_with number (labeled at Key l) path inner_rows)) label_is (relabeled number at _ inner_rows s.at.number own).0
-
-      branch-shown : (state : State) (are : AreOf state next o) (of_state : IsTableOf state table) (s : IsSeen k state o r) (is : IsNaming state s) (on : IsBranched state s) (number : List Step → ℕ) → Numbers number state.paths
-          → ShowsBranches new.told (first_goals Key path r.first) next (with_paths state.paths ((Name name ∷ (around_hole s.at.around).path) ∷ [])) (with_branch (around_children (around_hole s.at.around) s.at.node) s.at.below (Name name ∷ (around_hole s.at.around).path) [])
-      branch-shown state are of_state s is on number numbers =
-          let frames : List Frame = s.at.around in
-          let n : Node = record { number = s.at.node.number; kind = Key; label = name } in
-          let below : Forest = s.at.below in
-          let inner : Around = around_children (around_hole frames) s.at.node in
-          let step : List Step = Name name ∷ (around_hole frames).path in
-          let listed : List (List Step) = with_paths state.paths (step ∷ []) in
-          let branches : List Branch = with_branch inner below step [] in
-          let own = relabeled-shows state are of_state s number numbers in
-          let front : List (ℕ × NodeRow) = before_own local_hash number frames (shown local_hash (beside s.at.left (tree_then n below s.at.right))) s.at.left n.number in
-          let back : List (ℕ × NodeRow) = behind_own local_hash number frames (shown local_hash (beside s.at.left (tree_then n below s.at.right))) n.number s.at.right in
-          let own_here : ℕ × NodeRow = (n.number, record (own_row local_hash number frames s.at.left n below s.at.right) { path = path }) in
-          let rows_are : old_rows local_hash number branches ≡ rows local_hash number inner below = old-rows local_hash number inner below step [] ∙ append-nil (rows local_hash number inner below) in
-          let group : front ++ own_here ∷ (rows local_hash number inner below ++ back) ≡ (front ++ own_here ∷ []) ++ (rows local_hash number inner below ++ back) = simp append_assoc in
-          let few : size (trees_around (standing s)) ≤ next = subst (λ t. size t ≤ next) s.at.stands are.few in
-          let deep = deep-plug frames (beside s.at.left (tree_then s.at.node below s.at.right)) in
-          let parts = size-beside s.at.left (tree_then s.at.node below s.at.right) in
-          record {
-            local = local_hash;
-            number = number;
-            front = front ++ own_here ∷ [];
-            back = back;
-            begin = subst (λ f. BeginAll listed branches (first_goals Key path f)) (sym (ap (λ (w : NodeRow). w.first) s.row))
-                (begin-branch listed inner below step [] Key path [] (record { last = refl; kind_is = ap (λ q. Some q) is.key_is; at = on.at; fit = is.fit_below }) tt);
-            few = omega (arith, sizes-branch inner below step []);
-            shows = subst (λ l. Shows new.told ((front ++ own_here ∷ []) ++ (l ++ back))) (sym rows_are) (subst (Shows new.told) group own);
-            numbers_are = subst (Agree number listed) (sym (old-paths inner below step [])) (agree-all number state.paths (step ∷ []) _ numbers is.inner);
-          }
-
-      pub repath-stops : (after : Kept) (e : EditFault) → next ≤ 2 ^ 30 → ((state : State) → AreOf state next o → apply (rename k name) state ≡ unless (paths_spent state (renamed state) ∷ []) (renamed state))
-          → StopsRepathing (first_goals Key path r.first) next had (kept new.told mid) e → AnswersEach (rename k name) next (kept o table) after (Err e)
-      unfolding AnswersEach StopsRepathing
-      repath-stops after e fits is_apply stops state are of_state =
-          let s = seen k state next o r are there in
-          let is = naming state are of_state s fits in
-          let on = branched state are of_state s is in
-          let step : List Step = Name name ∷ (around_hole s.at.around).path in
-          let all : List (List Step) = paths_below (Some s.at.node) step s.at.below ++ [] in
-          let branches : List Branch = with_branch (around_children (around_hole s.at.around) s.at.node) s.at.below step [] in
-          let shown_here = branch-shown state are of_state s is on (number_of state.paths) (own-numbers table state.paths _ of_state.lists) in
-          let stopped = stops (with_paths state.paths (step ∷ [])) (counts_around (paths_left s.at.around s.at.left) (paths_right s.at.around s.at.right)) branches shown_here on.lists (λ other. omega (arith, is.room other, shown_here.few)) in
-          stops-answers (rename k name) state after had all e (had-paths had table state had_is of_state)
-          (λ many. is_apply state are ∙ paths-full state 0 (renamed state).trees (paths_left s.at.around s.at.left) all (paths_right s.at.around s.at.right) is.paths_are is.front is.back many)
-          (stops-same had (with_paths state.paths (step ∷ [])) state.paths (new_paths branches) all e (ap length on.with_is) stopped)
+          let own = key-shows state are of_state s number numbers in
+          let seen_is = standing-rows number at r (ap (λ (w : NodeRow). w.parent) s.row) o (number (own_path (around_hole s.at.around) s.at.node)) inner_rows above own (subst (λ p. IsChain o p (reverse above)) (sym up) renaming.chain) in
+          let here = subst (λ q. Shows q (rows_with number at (number (own_path (around_hole s.at.around) s.at.node)) inner_rows)) (sym renaming.now_is) own in
+          subst (λ l. Shows half (rows_with number (labeled at Key l) path inner_rows)) renaming.label_is (renaming.relabeled number at _ inner_rows s.at.number seen_is here)
 
       -- the records and the table of the new state
-      pub rename-done : (after : Kept) → next ≤ 2 ^ 30 → ((state : State) → AreOf state next o → apply (rename k name) state ≡ unless (paths_spent state (renamed state) ∷ []) (renamed state))
-          → IsRepathed (first_goals Key path r.first) next (kept new.told mid) after → AnswersEach (rename k name) next (kept o table) after (Ok (record { first = None; next = next }))
+      pub rename-done : (after : List PathRow) → next ≤ 2 ^ 30 → ((state : State) → AreOf state next o → apply (rename k name) state ≡ unless (paths_spent state (renamed state) ∷ []) (renamed state))
+          → IsRepathed (first_goals Key path r.first) next (kept o mid) after (entries_of moved) → AnswersEach (rename k name) next (kept o table) (kept told after) (Ok (record { first = None; next = next }))
       unfolding AnswersEach IsRepathed branch-shown
       rename-done after fits is_apply repathed state are of_state =
           let s = seen k state next o r are there in
@@ -269,19 +290,27 @@ module _ (k : ℕ) (name : List ℕ) (next : ℕ) (r p : NodeRecord) (parent pat
           let xs : List (List Step) = paths_left s.at.around s.at.left in
           let ys : List (List Step) = paths_right s.at.around s.at.right in
           let first = repathed listed (counts_around xs ys) branches (branch-shown state are of_state s is on (number_of state.paths) (own-numbers table state.paths _ of_state.lists)) on.lists in
-          let lists : Lists after.table final (more_on all (counts_around xs ys)) =
-          lists-here after.table _ final _ (more_on all (counts_around xs ys)) on.with_is (ap (λ ps. more_on ps (counts_around xs ys)) (new-paths inner s.at.below step [])) first.0 in
+          let lists : Lists after final (more_on all (counts_around xs ys)) =
+          lists-here after _ final _ (more_on all (counts_around xs ys)) on.with_is (ap (λ ps. more_on ps (counts_around xs ys)) (new-paths inner s.at.below step [])) first.0 in
           let number : List Step → ℕ = number_of final in
-          let numbers : Numbers number final = own-numbers after.table final _ lists in
-          let shows_new = (repathed listed (counts_around xs ys) branches (branch-shown state are of_state s is on number (numbers-back number state.paths all numbers)) on.lists).1 number (subst (Numbers number) (sym on.with_is) numbers) in
+          let numbers : Numbers number final = own-numbers after final _ lists in
+          let moved_is = (repathed listed (counts_around xs ys) branches (branch-shown state are of_state s is on number (numbers-back number state.paths all numbers)) on.lists).1 number (subst (Numbers number) (sym on.with_is) numbers) in
           let moved_rows : List (ℕ × NodeRow) = rows local_hash number (record inner { path = step }) s.at.below in
           let rows_branch : new_rows local_hash number branches ≡ moved_rows = new-rows local_hash number inner s.at.below step [] ∙ append-nil moved_rows in
+          let entries_are : entries_of moved ≡ moved_rows = moved_is ∙ rows_branch in
           let front_rows : List (ℕ × NodeRow) = before_own local_hash number s.at.around (shown local_hash (beside s.at.left (tree_then now_node s.at.below s.at.right))) s.at.left n.number in
           let back_rows : List (ℕ × NodeRow) = behind_own local_hash number s.at.around (shown local_hash (beside s.at.left (tree_then now_node s.at.below s.at.right))) n.number s.at.right in
           let own_here : ℕ × NodeRow = (n.number, record (own_row local_hash number s.at.around s.at.left now_node s.at.below s.at.right) { path = path }) in
-          let group : (front_rows ++ own_here ∷ []) ++ (moved_rows ++ back_rows) ≡ front_rows ++ own_here ∷ (moved_rows ++ back_rows) = simp append_assoc in
-          let shows : Shows after.told (rows_with number (labeled (standing s) Key name) path moved_rows) =
-          subst (Shows after.told) group (subst (λ l. Shows after.told ((front_rows ++ own_here ∷ []) ++ (l ++ back_rows))) rows_branch shows_new) in
+          let inner_rows : List (ℕ × NodeRow) = rows local_hash number inner s.at.below in
+          let group_in : front_rows ++ own_here ∷ (inner_rows ++ back_rows) ≡ (front_rows ++ own_here ∷ []) ++ (inner_rows ++ back_rows) = simp append_assoc in
+          let group_out : (front_rows ++ own_here ∷ []) ++ (moved_rows ++ back_rows) ≡ front_rows ++ own_here ∷ (moved_rows ++ back_rows) = simp append_assoc in
+          let half_shows = relabeled-shows state are of_state s number (numbers-back number state.paths all numbers) in
+          let numbers_same : numbers_of inner_rows ≡ numbers_of (entries_of moved) =
+          numbers-rows local_hash number inner s.at.below ∙ sym (numbers-rows local_hash number (record inner { path = step }) s.at.below) ∙ ap numbers_of (sym entries_are) in
+          let with_moved = shows-with moved inner_rows (front_rows ++ own_here ∷ []) back_rows half numbers_same (subst (Shows half) group_in half_shows) in
+          let shows : Shows told (rows_with number (labeled (standing s) Key name) path moved_rows) =
+          subst (λ q. Shows q (rows_with number (labeled (standing s) Key name) path moved_rows)) (sym renaming.put)
+          (subst (Shows (option_map (with_records moved) half)) group_out (subst (λ l. Shows (option_map (with_records moved) half) ((front_rows ++ own_here ∷ []) ++ (l ++ back_rows))) entries_are with_moved)) in
           let named_path : own_path around now_node ≡ step = is.named.name_is name in
           let rows_are : moved_rows ≡ rows local_hash number (around_children around now_node) s.at.below =
           rows-moved number (record inner { path = step }) (around_children around now_node) s.at.below refl refl refl (λ l. (λ i. path_below (is.key_is i) (sym named_path i) l)) in
@@ -297,6 +326,6 @@ module _ (k : ℕ) (name : List ℕ) (next : ℕ) (r p : NodeRecord) (parent pat
             new_state,
             is_apply state are ∙ paths-room state 0 new_state.trees xs all ys is.paths_are is.front is.back lists.few,
             (λ i. record { first = None; next = number_is i }),
-            (subst (λ (l : List (List Step)). Shows after.told (rows_in (number_of l) new_state.trees)) (sym new_is) (subst (Shows after.told) whole_is shows)).holds,
-            table-around state 0 new_state.trees xs all ys is.paths_are is.front is.back after.table lists,
+            (subst (λ (l : List (List Step)). Shows told (rows_in (number_of l) new_state.trees)) (sym new_is) (subst (Shows told) whole_is shows)).holds,
+            table-around state 0 new_state.trees xs all ys is.paths_are is.front is.back after lists,
           )

@@ -15,6 +15,7 @@ use Rattle.sx_model.specs.Tree.{is_value}
 use Rattle.sx_paths.specs.Table.{number_in, recount, row_at, row_of}
 use Rattle.sx_paths.specs.Listed.{IsBase, counted, has_path, row_by, rows_of_paths}
 use Rattle.sx_paths.proofs.Listing.{AreListed-push, has-last, has-more, number-found, number-kept, number-new, number-none, placed, row-listed, rows-counted, rows-entered, same_path-equal, same_path-same, unplaced, with_paths-behind, empty-unlisted}
+use Rattle.sx_paths.proofs.StateLemmas.{found-at, parent-before}
 use Rattle.sx_edit.specs.declared.fault.EditFault.{EditFault}
 use Rattle.sx_edit.specs.declared.fault.EditFault.TheVariants.{OutOfMemory, Refused}
 use Rattle.sx_edit.specs.Pathways.{CannotCountIn, HasAll, IsCountedIn, IsCountedOut, IsNodeOut, IsOnto, IsPathAt, IsStart, Lists, Numbers, Stops, StopsOnto, more_on, own_of}
@@ -171,6 +172,12 @@ module _ (parent : ℕ) (step : Step) (old : List PathRow) (found : Option ℕ) 
   unfolding StopsOnto
   onto-large number had fault some large listed count steps lists start =
       absurd (omega (arith, large, lists.few, within (step ∷ steps) 1 number listed (looked listed count steps lists start ∙ some)))
+
+  pub onto-low : (number had : ℕ) (fault : EditFault) → found ≡ Some number → number ≤ parent → StopsOnto parent step had old fault
+  unfolding StopsOnto
+  onto-low number had fault some low listed count steps lists start =
+      let at = found-at (step ∷ steps) 1 number listed (looked listed count steps lists start ∙ some) in
+      absurd (omega (arith, low, start.is, at.0, parent-before listed (number - 1) step steps lists.are at.2))
 
   pub onto-orphan : (had : ℕ) (fault : EditFault) → (parent ≡ 0 → ⊥) → row_at old parent ≡ None → StopsOnto parent step had old fault
   unfolding StopsOnto

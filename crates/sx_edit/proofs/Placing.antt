@@ -1,7 +1,7 @@
 -- Where a new value comes, in the trees of a state.
 use Rattle.std.specs.Prelude.{◌==◌}
-use Rattle.std.proofs.Common.{◌≡◌, ℕ, ◌≤◌, Bool, true, false, ◌||◌, List, [], ◌∷◌, Option, Some, None, Result, Ok, Err, refl, sym, ap, subst, ◌∙◌, arith, if◌then◌else◌}
-use Rattle.std.specs.Prelude.{IfErr, IsErrAnd, IsTrue, not}
+use Rattle.std.proofs.Common.{◌≡◌, ℕ, suc, ◌+◌, ◌≤◌, length, Bool, true, false, ◌||◌, List, [], ◌∷◌, Option, Some, None, Result, Ok, Err, inl, inr, refl, sym, ap, subst, ◌∙◌, arith, if◌then◌else◌}
+use Rattle.std.specs.Prelude.{IfErr, IfSome, IsErrAnd, IsTrue, not}
 use Rattle.std.specs.List.{list_any}
 use Rattle.std.specs.Option.{ForSome}
 use Rattle.std.specs.FinMap as fin
@@ -28,7 +28,10 @@ use Rattle.sx_model.proofs.Holes.{shown-beside}
 use Rattle.sx_view.specs.declared.fault.Fault.{Fault}
 use Rattle.sx_edit.specs.declared.fault.EditFault.{EditFault}
 use Rattle.sx_edit.specs.declared.fault.EditFault.TheVariants.{Refused}
-use Rattle.sx_edit.specs.Damage.{IsDamaged}
+use Rattle.sx_edit.specs.Damage.{IsDamaged, IsReached, IsRecord}
+use Rattle.sx_edit.specs.Seen.{AreReached}
+use Rattle.sx_edit.specs.declared.trees.Gap.{Gap}
+use Rattle.sx_edit.proofs.Going.{leads-first, leads-last, leads-left, leads-one, leads-parent, leads-reached, leads-right}
 use Rattle.sx_edit.specs.EditFault.{edit_fault}
 use Rattle.sx_edit.specs.declared.trees.Target as code
 use Rattle.sx_edit.specs.Answers.{AreOf, AnswersEach}
@@ -45,10 +48,17 @@ use Rattle.sx_edit.proofs.Climbing.{some_is}
 use Rattle.sx_edit.proofs.Looking.{IsSeen}
 use Rattle.sx_edit.proofs.Replacing.{are-below}
 use Rattle.sx_edit.proofs.Seeking.{Sought, missing, found, seek}
-use Rattle.sx_edit.proofs.SettingScalars.{seen}
+use Rattle.sx_edit.proofs.SettingScalars.{length-nodes_of, seen}
+use Rattle.sx_edit.specs.Gets.{at_spot, gets_at_place, keys_among}
 use Rattle.sx_edit.proofs.Splicing.{must_stay-below, must_stay-top, parent-kind, parent-there}
 use Rattle.sx_edit.proofs.Standing.{beside_assoc}
 use Rattle.sx_edit.specs.Holes.{own_row}
+
+gets-below : (keys a b : ℕ) → a ≡ b → 5 + (keys + a) ≡ 4 + (keys + suc b)
+gets-below keys a b is = omega (arith, is)
+
+gets-beside : (keys a b : ℕ) → a ≡ b → 4 + (keys + suc a) ≡ 4 + (keys + suc b)
+gets-beside keys a b is = omega (arith, is)
 
 beside_nothing : (xs : Forest) → beside xs no_trees ≡ xs
 beside_nothing no_trees = refl
@@ -166,6 +176,8 @@ module _ (k next : ℕ) (r : NodeRecord) (o : Option (RecordMap NodeRecord)) (th
         path = is.path ∙ ap (λ (w : NodeRow). w.path) s.row;
         takes = ap not (subst (λ kind. (is_key kind || is_scalar kind) ≡ false) (ap (λ (w : NodeRow). w.kind) s.row) free);
         children = is.first ∙ ap (λ (w : NodeRow). w.first) s.row ∙ ap first_of (sym nothing);
+        gets = ap (at_spot (gets_at_place (place_below true k))) s.at.spot ∙ gets-below _ _ _ (length-nodes_of s.at.around)
+            ∙ ap (λ t. 4 + (keys_among s.at.node.kind t + suc (length s.at.around))) (sym nothing);
         applied = λ name value. ap (if_there k (λ q. if_place q.node (insert_below (place_below true k) name value state) (target_below q))) s.at.spot
             ∙ below-one state s (insert_below (place_below true k) name value state) free
             ∙ ap (λ t. insert_below (place_below true k) name value state (record { parent = s.at.node; children = t; above = nodes_of s.at.around })) (sym nothing);
@@ -186,6 +198,7 @@ module _ (k next : ℕ) (r : NodeRecord) (o : Option (RecordMap NodeRecord)) (th
         path = is.path ∙ ap (λ (w : NodeRow). w.path) s.row;
         takes = ap not (subst (λ kind. (is_key kind || is_scalar kind) ≡ false) (ap (λ (w : NodeRow). w.kind) s.row) free);
         children = is.first ∙ ap (λ (w : NodeRow). w.first) s.row;
+        gets = ap (at_spot (gets_at_place (place_below false k))) s.at.spot ∙ gets-below _ _ _ (length-nodes_of s.at.around);
         applied = λ name value. ap (if_there k (λ q. if_place q.node (insert_below (place_below false k) name value state) (target_below q))) s.at.spot
             ∙ below-one state s (insert_below (place_below false k) name value state) free;
         made = λ enter. s.at.changed (λ n below rest. tree_then n (enter below) rest);
@@ -265,6 +278,8 @@ module _ (k next : ℕ) (r : NodeRecord) (o : Option (RecordMap NodeRecord)) (th
         path = is.path ∙ ap (λ (w : NodeRow). w.path) p_row;
         takes = takes-children frame.node.kind n.kind (fit_back (above (frame ∷ frames)) before (tree_then n below after) (fit_inside (frame ∷ frames) inside fit)).0 (sym (ap is_key kind) ∙ free);
         children = is.first ∙ ap (λ (w : NodeRow). w.first) p_row ∙ ap first_of (sym joined);
+        gets = ap (at_spot (gets_at_place (After k))) spot_is ∙ gets-beside (keys_among frame.node.kind inside) _ _ (length-nodes_of frames)
+            ∙ ap (λ t. 4 + (keys_among frame.node.kind t + suc (length frames))) (sym joined);
         applied = λ name value. ap (if_there k (λ q. if_place q.node (insert_below (After k) name value state) (target_beside q.above q.siblings))) spot_is
             ∙ one-beside name value (After k) state n frame.node (nodes_of frames) inside (sym (ap is_key kind) ∙ free)
             ∙ ap (λ t. insert_below (After k) name value state (record { parent = frame.node; children = t; above = nodes_of frames })) (sym joined);
@@ -290,6 +305,7 @@ module _ (k next : ℕ) (r : NodeRecord) (o : Option (RecordMap NodeRecord)) (th
         path = is.path ∙ ap (λ (w : NodeRow). w.path) p_row;
         takes = takes-children frame.node.kind n.kind (fit_back (above (frame ∷ frames)) before (tree_then n below after) (fit_inside (frame ∷ frames) inside fit)).0 (sym (ap is_key kind) ∙ free);
         children = is.first ∙ ap (λ (w : NodeRow). w.first) p_row;
+        gets = ap (at_spot (gets_at_place (Before k))) spot_is ∙ gets-beside (keys_among frame.node.kind inside) _ _ (length-nodes_of frames);
         applied = λ name value. ap (if_there k (λ q. if_place q.node (insert_below (Before k) name value state) (target_beside q.above q.siblings))) spot_is
             ∙ one-beside name value (Before k) state n frame.node (nodes_of frames) inside (sym (ap is_key kind) ∙ free);
         made = λ enter. changed (λ n below rest. enter (tree_then n below rest));
@@ -308,3 +324,34 @@ pub fault-no_place : (place : Place) (next : ℕ) (o : Option (RecordMap NodeRec
 unfolding IsNoPlace
 fault-no_place place next o fault (Ok x) is damaged = absurd is
 fault-no_place place next o fault (Err e) is damaged = λ name value table after. err-answers (insert place name value) next (kept o table) after (Err e) fault is damaged
+
+-- ---- the links around a place
+
+reached-as : (o : Option (RecordMap NodeRecord)) (near k : ℕ) (x y : Option ℕ) → near ≡ k → x ≡ y → IfSome y (λ to. IsReached o k to) → IfSome x (λ to. IsReached o near to)
+reached-as o near k x y near_is is = rw (near_is, is) (λ (z : IfSome y (λ to. IsReached o k to)). z)
+
+pub reached-below : (o : Option (RecordMap NodeRecord)) (k : ℕ) (r : NodeRecord) (gap : Gap) (last : Bool) → gap.near ≡ k → gap.parent ≡ k → gap.left ≡ (if last then r.last else None) → gap.right ≡ (if last then None else r.first)
+    → IsRecord o k r → AreReached o gap
+reached-below o k r gap true near parent left right there = record {
+  left = reached-as o gap.near k gap.left r.last near left (leads-reached o k r.last (leads-last o k r there r.last refl));
+  right = reached-as o gap.near k gap.right None near right tt;
+  parent = rw (near, parent) (inr (r, there));
+}
+reached-below o k r gap false near parent left right there = record {
+  left = reached-as o gap.near k gap.left None near left tt;
+  right = reached-as o gap.near k gap.right r.first near right (leads-reached o k r.first (leads-first o k r there r.first refl));
+  parent = rw (near, parent) (inr (r, there));
+}
+
+pub reached-beside : (o : Option (RecordMap NodeRecord)) (k parent : ℕ) (r : NodeRecord) (gap : Gap) (after : Bool) → gap.near ≡ k → gap.parent ≡ parent → gap.left ≡ (if after then Some k else r.left) → gap.right ≡ (if after then r.right else Some k)
+    → IsRecord o k r → r.parent ≡ Some parent → AreReached o gap
+reached-beside o k parent r gap true near parent_is left right there up = record {
+  left = reached-as o gap.near k gap.left (Some k) near left (inr (r, there));
+  right = reached-as o gap.near k gap.right r.right near right (leads-reached o k r.right (leads-right o k r there r.right refl));
+  parent = rw (near, parent_is) (inl (leads-one o k parent r.parent up (leads-parent o k r there r.parent refl)));
+}
+reached-beside o k parent r gap false near parent_is left right there up = record {
+  left = reached-as o gap.near k gap.left r.left near left (leads-reached o k r.left (leads-left o k r there r.left refl));
+  right = reached-as o gap.near k gap.right (Some k) near right (inr (r, there));
+  parent = rw (near, parent_is) (inl (leads-one o k parent r.parent up (leads-parent o k r there r.parent refl)));
+}

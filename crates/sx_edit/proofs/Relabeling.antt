@@ -1,6 +1,6 @@
 -- Another kind and label of a node, and what is left to lift then.
-use Rattle.std.proofs.Common.{◌≡◌, ℕ, ◌+◌, ◌*◌, ◌≤◌, ◌<◌, List, [], ◌∷◌, ◌++◌, length, Option, Some, refl, sym, ap, subst, ◌∙◌, add-zero, append_assoc, arith}
-use Rattle.std.specs.Prelude.{◌%◌, ◌^◌, ◌-◌, option_map}
+use Rattle.std.proofs.Common.{◌≡◌, ℕ, ◌+◌, ◌*◌, ◌≤◌, List, [], ◌∷◌, ◌++◌, length, Option, Some, refl, sym, ap, subst, ◌∙◌, add-zero, append_assoc, arith}
+use Rattle.std.specs.Prelude.{◌%◌, ◌^◌, ◌-◌, option_map, reverse}
 use Rattle.std.specs.Option.{ForSome}
 use Rattle.std.specs.FinMap as fin
 use Rattle.std.proofs.Math.Nat.{add-mod-mod, mod-add-mod}
@@ -13,13 +13,16 @@ use Rattle.sx_model.specs.Hash.{local_hash}
 use Rattle.sx_model.specs.Tree.{Node, Forest, no_trees, tree_then, beside, size}
 use Rattle.sx_model.specs.Records.{NodeRow, rows}
 use Rattle.sx_model.specs.Holes.{Frame, Shown, plug, filled, shown, around_hole, rows_before, rows_behind}
-use Rattle.sx_edit.specs.Holes.{AreNew, above, IsShift, IsAlike, top_shown, whole, own_row, before_own, behind_own}
-use Rattle.sx_edit.specs.Told.{AreDistinct, Shows, Moment, IsLifted, CannotLift}
-use Rattle.sx_edit.specs.Edited.{Standing, labeled, rows_with, IsRelabeled, CannotRelabel}
-use Rattle.sx_edit.proofs.Climbing.{some_is, parent-around_hole}
+use Rattle.sx_edit.specs.Holes.{AreNew, IsShift, IsAlike, rows_above, whole, own_row, before_own, behind_own}
+use Rattle.sx_edit.specs.Seen.{IsChain, upward}
+use Rattle.sx_edit.specs.Told.{AreDistinct, Shows, IsLifted}
+use Rattle.sx_edit.specs.declared.trees.Seen.{Seen}
+use Rattle.sx_edit.specs.Edited.{Standing, labeled, rows_with, IsRelabeled}
+use Rattle.sx_edit.proofs.Climbing.{parent-around_hole, some_is}
+use Rattle.sx_edit.proofs.Failing.{chain-rows}
 use Rattle.sx_edit.proofs.Showing.{shows-get, shows-put}
 use Rattle.sx_edit.proofs.Shifts.{hash_among}
-use Rattle.sx_edit.proofs.Standing.{shown-with_node, top_shown-plug, new-whole, numbers-whole}
+use Rattle.sx_edit.proofs.Standing.{shown-with_node, new-whole, numbers-whole}
 
 hash_changed : (M l k s d : ℕ) → k % M ≡ (l + d) % M → (k + 257 * s) % M ≡ ((l + 257 * s) % M + d) % M
 hash_changed M l k s d is =
@@ -42,8 +45,7 @@ pub record IsRenewed (k : ℕ) (kind : Kind) (label : List ℕ) (path d : ℕ) (
   pub more : local_hash kind label % 2 ^ 128 ≡ (local_hash r.kind r.label + d) % 2 ^ 128
 
 -- what is left to lift
-record IsHalfway (number : List Step → ℕ) (parent : Option ℕ) (d : ℕ) (mid : Option (RecordMap NodeRecord)) (frames : List Frame) (a b : Shown) (hole : List (ℕ × NodeRow)) : Type 0 where
-  up : above frames ≡ parent
+record IsHalfway (number : List Step → ℕ) (d : ℕ) (mid : Option (RecordMap NodeRecord)) (frames : List Frame) (a b : Shown) (hole : List (ℕ × NodeRow)) : Type 0 where
   new : AreNew frames
   shift : IsShift 0 0 d a b
   alike : IsAlike a b
@@ -53,7 +55,7 @@ regroup : (f b h l m : List (ℕ × NodeRow)) (e : ℕ × NodeRow) → f ++ ((b 
 regroup f b h l m e = simp append_assoc
 
 -- the rows in the hole, where the node's own is this
-abbrev hole_with : (List Step → ℕ) → Standing → NodeRow → List (ℕ × NodeRow) → List (ℕ × NodeRow)
+abbrev pub hole_with : (List Step → ℕ) → Standing → NodeRow → List (ℕ × NodeRow) → List (ℕ × NodeRow)
 hole_with number at own inner =
     rows local_hash number (record (around_hole at.frames) { right = Some at.node.number }) at.before
     ++ (at.node.number, own) ∷ (inner ++ rows local_hash number (record (around_hole at.frames) { left = Some at.node.number }) at.behind)
@@ -62,7 +64,7 @@ halfway : (k : ℕ) (kind : Kind) (label : List ℕ) (path d : ℕ) (r s : NodeR
     → let now : Standing = labeled at kind label in
     at.node.number ≡ k → ForSome old (λ m. fin.get m k ≡ Some r) → IsRenewed k kind label path d r s → mid ≡ option_map (λ m. fin.insert m k s) old
     → Shows old (rows_with number at was inner)
-    → IsHalfway number r.parent d mid at.frames (shown local_hash (beside at.before (tree_then at.node at.below at.behind))) (shown local_hash (beside at.before (tree_then now.node at.below at.behind)))
+    → IsHalfway number d mid at.frames (shown local_hash (beside at.before (tree_then at.node at.below at.behind))) (shown local_hash (beside at.before (tree_then now.node at.below at.behind)))
     (hole_with number at (record (own_row local_hash number at.frames at.before now.node at.below at.behind) { path = path }) inner)
 halfway k kind label path d r s old mid number at was inner same there renewed put shows =
     let n : Node = at.node in
@@ -88,41 +90,39 @@ halfway k kind label path d r s old mid number at was inner same there renewed p
     let a_is = shown-with_node local_hash at.before n at.below at.behind in
     let b_is = shown-with_node local_hash at.before relabeled at.below at.behind in
     record {
-      up = sym (ap (λ (w : NodeRow). w.parent) known ∙ parent-around_hole local_hash number at.frames);
       new = new-whole local_hash number at.frames a hole shows_mid.distinct;
       shift = rw (a_is, b_is) (record { nodes = refl; hashes = hash_among (2 ^ 128) _ _ _ _ d hash });
       alike = rw (a_is, b_is) (record { first = refl; last = refl; trees = refl });
       shows = shows_mid;
     }
 
-pub relabeled-lifted : (k : ℕ) (kind : Kind) (label : List ℕ) (path d : ℕ) (r s : NodeRecord) (old mid new : Moment)
-    → ForSome old.told (λ m. fin.get m k ≡ Some r) → IsRenewed k kind label path d r s → mid.told ≡ option_map (λ m. fin.insert m k s) old.told → mid.gets ≡ old.gets
-    → IsLifted r.parent 0 0 d mid new → IsRelabeled k kind label path old new
+-- the rows above a node are those that were read on the way up from it
+pub standing-rows : (number : List Step → ℕ) (at : Standing) (r : NodeRecord) → r.parent ≡ option_map (λ m. m.number) (around_hole at.frames).above
+    → (o : Option (RecordMap NodeRecord)) (was : ℕ) (inner : List (ℕ × NodeRow)) (seens : List Seen) → Shows o (rows_with number at was inner) → IsChain o r.parent (reverse seens)
+    → rows_above local_hash number at.frames (shown local_hash (beside at.before (tree_then at.node at.below at.behind))) ≡ upward seens
+standing-rows number at r up o was inner seens shows chain =
+    let a : Shown = shown local_hash (beside at.before (tree_then at.node at.below at.behind)) in
+    let own : NodeRow = record (own_row local_hash number at.frames at.before at.node at.below at.behind) { path = was } in
+    let hole : List (ℕ × NodeRow) = hole_with number at own inner in
+    let all : Shows o (whole local_hash number at.frames a hole) = subst (Shows o) (sym (regroup (rows_before local_hash number at.frames a) _ inner _ (rows_behind local_hash number at.frames a) (at.node.number, own))) shows in
+    chain-rows local_hash number at.frames a hole r.parent (reverse seens) o (new-whole local_hash number at.frames a hole all.distinct) (sym (up ∙ parent-around_hole local_hash number at.frames)) all.holds chain
+
+pub relabeled-lifted : (k : ℕ) (kind : Kind) (label : List ℕ) (path d : ℕ) (r s : NodeRecord) (seen : List (ℕ × NodeRow)) (old mid new : Option (RecordMap NodeRecord))
+    → ForSome old (λ m. fin.get m k ≡ Some r) → IsRenewed k kind label path d r s → mid ≡ option_map (λ m. fin.insert m k s) old
+    → IsLifted seen 0 0 d mid new → IsRelabeled k kind label path seen old new
 unfolding IsLifted IsRelabeled
-relabeled-lifted k kind label path d r s old mid new there renewed put gets lifted number at was inner same shows =
+relabeled-lifted k kind label path d r s seen old mid new there renewed put lifted number at was inner same above_is shows =
     let now : Standing = labeled at kind label in
-    let half = halfway k kind label path d r s old.told mid.told number at was inner same there renewed put shows in
+    let half = halfway k kind label path d r s old mid number at was inner same there renewed put shows in
+    let a : Shown = shown local_hash (beside at.before (tree_then at.node at.below at.behind)) in
     let b : Shown = shown local_hash (beside at.before (tree_then now.node at.below at.behind)) in
     let own : NodeRow = record (own_row local_hash number at.frames at.before now.node at.below at.behind) { path = path } in
     let hole : List (ℕ × NodeRow) = hole_with number at own inner in
-    let last = lifted local_hash number at.frames (shown local_hash (beside at.before (tree_then at.node at.below at.behind))) b hole half.new half.up half.shift half.alike half.shows.holds in
-    let all : Shows new.told (whole local_hash number at.frames b hole) = record {
-      holds = last.0;
-      distinct = subst AreDistinct (numbers-whole local_hash number at.frames _ b hole) half.shows.distinct;
+    let all : Shows new (whole local_hash number at.frames b hole) = record {
+      holds = lifted local_hash number at.frames a a b hole half.new above_is half.shift half.alike half.shows.holds;
+      distinct = subst AreDistinct (numbers-whole local_hash number at.frames a b hole) half.shows.distinct;
     } in
-    let few = last.1 in
-    (subst (Shows new.told) (regroup (rows_before local_hash number at.frames b) _ inner _ (rows_behind local_hash number at.frames b) (at.node.number, own)) all, omega arith)
-
-pub relabel-possible : (k : ℕ) (kind : Kind) (label : List ℕ) (path d limit : ℕ) (r s : NodeRecord) (old mid : Option (RecordMap NodeRecord))
-    → ForSome old (λ m. fin.get m k ≡ Some r) → IsRenewed k kind label path d r s → mid ≡ option_map (λ m. fin.insert m k s) old → limit < 2 ^ 32
-    → CannotLift r.parent 0 0 limit mid → CannotRelabel k limit old
-unfolding CannotLift CannotRelabel
-relabel-possible k kind label path d limit r s old mid there renewed put room cannot number at was inner same few shows =
-    let inside : Forest = beside at.before (tree_then at.node at.below at.behind) in
-    let half = halfway k kind label path d r s old mid number at was inner same there renewed put shows in
-    let deep = deep-plug at.frames inside in
-    let all : (top_shown local_hash at.frames (shown local_hash inside)).nodes ≡ size (plug at.frames inside) = ap (λ (w : Shown). w.nodes) (top_shown-plug local_hash at.frames inside) in
-    cannot local_hash number at.frames (shown local_hash inside) _ half.new half.up (omega arith) (omega arith) (omega arith) half.shows.holds
+    subst (Shows new) (regroup (rows_before local_hash number at.frames b) _ inner _ (rows_behind local_hash number at.frames b) (at.node.number, own)) all
 
 -- a sum of hashes in which one took the place of another
 pub difference_of : (old new l k : ℕ) → k + old ≡ l + new → old ≤ 2 ^ 128 → k % 2 ^ 128 ≡ (l + (new + (2 ^ 128 - old)) % 2 ^ 128) % 2 ^ 128

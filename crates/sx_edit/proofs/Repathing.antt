@@ -1,5 +1,5 @@
 -- Trees that come to stand on other paths, one node after the other.
-use Rattle.std.proofs.Common.{◌≡◌, ℕ, suc, ◌+◌, ◌-◌, ◌≤◌, true, false, cond, List, [], ◌∷◌, ◌++◌, length, Option, Some, None, refl, sym, ap, subst, ◌∙◌, arith, append_assoc}
+use Rattle.std.proofs.Common.{◌≡◌, ℕ, suc, ◌+◌, ◌-◌, ◌≤◌, true, false, cond, List, [], ◌∷◌, ◌++◌, length, Option, Some, None, refl, sym, ap, subst, ◌∙◌, arith, append_assoc, append-nil}
 use Rattle.std.specs.Prelude.{Result, Ok, Err, IfErr, IfSome, IsErrAnd, IsTrue, map, option_map}
 use Rattle.std.specs.Option.{ForSome, option_or, option_to_list}
 use Rattle.std.specs.FinMap as fin
@@ -12,7 +12,9 @@ use Rattle.sx_tree.specs.declared.record.Step.{Step}
 use Rattle.sx_tree.specs.declared.record.Step.TheVariants.{Top}
 use Rattle.sx_view.specs.declared.fault.Fault.{Fault}
 use Rattle.sx_view.specs.declared.fault.Fault.TheVariants as faults
-use Rattle.sx_edit.specs.Damage.{IsDamaged}
+use Rattle.sx_edit.specs.Damage.{IsDamaged, LeadsTo}
+use Rattle.sx_edit.specs.Seen.{entries_of, entry_of}
+use Rattle.sx_edit.specs.declared.trees.Seen.{Seen}
 use Rattle.sx_edit.specs.EditFault.{edit_fault}
 use Rattle.sx_edit.proofs.Results.{err_again}
 use Rattle.sx_view.specs.Records.{RecordMap}
@@ -25,11 +27,12 @@ use Rattle.sx_edit.specs.declared.fault.EditFault.{EditFault}
 use Rattle.sx_edit.specs.declared.fault.EditFault.TheVariants.{Failed, Damaged, OutOfMemory}
 use Rattle.sx_edit.specs.declared.trees.Move.{Move}
 use Rattle.sx_edit.specs.Pathways.{CannotCountIn, IsCountedIn, IsCountedOut, IsOnto, IsPathAt, Kept, Lists, Numbers, Stops, StopsOnto, kept, more_on, own_of, own_path, paths_under}
-use Rattle.sx_edit.specs.Repath.{Agree, BeginAll, Branch, CannotExchange, Goal, IsExchanged, IsRepathed, IsUnder, ShowsBranches, StopsRepathing, StopsUnder, branch_sizes, goal_of, goals_of, new_paths, new_rows, old_paths, old_rows, with_goal}
-use Rattle.sx_edit.specs.Told.{Shows}
-use Rattle.sx_edit.proofs.Climbing.{some_is}
+use Rattle.sx_edit.specs.Repath.{Agree, AllLead, BeginAll, Branch, CannotExchange, Goal, IsExchanged, IsRepathed, IsUnder, ShowsBranches, StopsRepathing, StopsUnder, branch_sizes, first_goals, goal_of, goals_of, new_paths, new_rows, old_paths, old_rows, with_goal}
+use Rattle.sx_edit.specs.Clear.{first_tops, with_top}
+use Rattle.sx_edit.specs.Told.{IsWalked, Shows, numbers_of}
+use Rattle.sx_edit.proofs.Climbing.{map-append, some_is}
 use Rattle.sx_edit.proofs.Pathing.{lists-as, more-append, more-swap, own-numbers, path-with, start-at, with-one, with-twice}
-use Rattle.sx_edit.proofs.Showing.{shows-get, shows-put}
+use Rattle.sx_edit.proofs.Showing.{shows-get}
 use Rattle.sx_edit.proofs.Stopping.{stops-among, stops-same}
 use Rattle.sx_edit.proofs.Swapping.{no_document}
 use Rattle.sx_edit.proofs.TreePaths.{own-few, paths-few}
@@ -205,7 +208,7 @@ with-own listed above k Number label path below others stands children fit = ref
 with-own listed above k Truth label path below others stands children fit = refl
 with-own listed above k Null label path below others stands children fit = refl
 
--- The first node of the branches: its paths, what is left behind it, and how the records show that once the node has moved.
+-- The first node of the branches: its paths, what is left behind it, and how the records show that.
 record IsFirst (goal : Goal) (goals : List Goal) (limit fewer : ℕ) (r : NodeRecord) (o : Option (RecordMap NodeRecord)) (listed : List (List Step)) (branches : List Branch) (shown : ShowsBranches o (goal ∷ goals) limit listed branches) : Type 0 where
   steps : List Step
   old : List Step
@@ -219,11 +222,10 @@ record IsFirst (goal : Goal) (goals : List Goal) (limit fewer : ℕ) (r : NodeRe
   begin : (path : ℕ) → IsPathAt (with_paths listed (path_below goal.kind steps r.label ∷ [])) (path_below goal.kind steps r.label) path
       → BeginAll (with_paths listed (path_below goal.kind steps r.label ∷ [])) left (with_goal r.kind path r.first (with_goal goal.kind goal.path r.right goals))
   few : branch_sizes left ≤ fewer
-  put : (path : ℕ) (s : NodeRecord) → row_of s ≡ record (row_of r) { path = path } → Shows (option_map (λ m. fin.insert m goal.to s) o)
-      ((shown.front ++ (goal.to, record (row_of r) { path = path }) ∷ []) ++ (old_rows shown.local shown.number left ++ shown.back))
+  shows : Shows o ((shown.front ++ (goal.to, row_of r) ∷ []) ++ (old_rows shown.local shown.number left ++ shown.back))
   agree : Agree shown.number listed (old_paths left)
   rows_are : (path : ℕ) (number : List Step → ℕ) → path ≡ number (path_below goal.kind steps r.label)
-      → (shown.front ++ (goal.to, record (row_of r) { path = path }) ∷ []) ++ (new_rows shown.local number left ++ shown.back) ≡ shown.front ++ (new_rows shown.local number branches ++ shown.back)
+      → (goal.to, record (row_of r) { path = path }) ∷ new_rows shown.local number left ≡ new_rows shown.local number branches
 
 first-node : (goal : Goal) (goals : List Goal) (limit fewer : ℕ) (r : NodeRecord) (o : Option (RecordMap NodeRecord)) → ForSome o (λ m. fin.get m goal.to ≡ Some r) → limit - 1 ≡ fewer
     → (listed : List (List Step)) (branches : List Branch) (shown : ShowsBranches o (goal ∷ goals) limit listed branches) → IsFirst goal goals limit fewer r o listed branches shown
@@ -298,12 +300,11 @@ first-node goal goals limit fewer r o found one_less listed (branch ∷ branches
               (record { last = begins.last; kind_is = begins.kind; at = path-with listed (new ∷ []) steps goal.path begins.path; fit = begins.fit.4 })
               (begin-later listed (new ∷ []) branches goals shown.begin.1))));
           few = omega (arith, many, one_less, shown.few);
-          put = λ path_now s row_is.
-              let after : Option (RecordMap NodeRecord) = option_map (λ m. fin.insert m goal.to s) o in
-              let put_here = shows-put o s shown.front _ goal.to here (record (row_of r) { path = path_now }) row_is shows_to in
-              let group : shown.front ++ (goal.to, record (row_of r) { path = path_now }) ∷ ((rows_below ++ (rows_rest ++ others)) ++ shown.back)
-              ≡ (shown.front ++ (goal.to, record (row_of r) { path = path_now }) ∷ []) ++ ((rows_below ++ (rows_rest ++ others)) ++ shown.back) = simp append_assoc in
-              subst (λ l. Shows after ((shown.front ++ (goal.to, record (row_of r) { path = path_now }) ∷ []) ++ (l ++ shown.back))) (sym rows_left) (subst (Shows after) group put_here);
+          shows =
+              let group : shown.front ++ (goal.to, row_of r) ∷ ((rows_below ++ (rows_rest ++ others)) ++ shown.back)
+              ≡ (shown.front ++ (goal.to, row_of r) ∷ []) ++ ((rows_below ++ (rows_rest ++ others)) ++ shown.back) = simp append_assoc in
+              let own = subst (λ w. Shows o (shown.front ++ (goal.to, w) ∷ ((rows_below ++ (rows_rest ++ others)) ++ shown.back))) (sym known) shows_to in
+              subst (λ l. Shows o ((shown.front ++ (goal.to, row_of r) ∷ []) ++ (l ++ shown.back))) (sym rows_left) (subst (Shows o) group own);
           agree = agree-back number listed (own_of r.kind path) (old_paths left) agree_all;
           rows_are = λ path_now by is.
               let moved_below : Around = record inner { path = new } in
@@ -311,12 +312,9 @@ first-node goal goals limit fewer r o found one_less listed (branch ∷ branches
               let here_now : ℕ × NodeRow = (n.number, row local by (record around { path = steps; right = option_or (first_of rest) around.right }) n below) in
               let left_is : new_rows local by left ≡ rows local by moved_below below ++ (rows local by moved_beyond rest ++ new_rows local by branches) =
               new-rows local by inner below new ahead ∙ ap (λ l. rows local by moved_below below ++ l) (new-rows local by beyond rest steps branches) in
-              let group : (shown.front ++ here_now ∷ []) ++ ((rows local by moved_below below ++ (rows local by moved_beyond rest ++ new_rows local by branches)) ++ shown.back)
-              ≡ shown.front ++ ((here_now ∷ (rows local by moved_below below ++ rows local by moved_beyond rest)) ++ new_rows local by branches ++ shown.back) = simp append_assoc in
-              let group_2 : shown.front ++ ((here_now ∷ (rows local by moved_below below ++ rows local by moved_beyond rest)) ++ new_rows local by branches ++ shown.back)
-              ≡ shown.front ++ ((here_now ∷ (rows local by moved_below below ++ rows local by moved_beyond rest) ++ new_rows local by branches) ++ shown.back) = simp append_assoc in
-              (λ i. (shown.front ++ row_now path_now by is i ∷ []) ++ (left_is i ++ shown.back)) ∙ group ∙ group_2
-              ∙ (λ i. shown.front ++ ((here_now ∷ (rows local by (record inner { path = sym new_is i }) below ++ rows local by moved_beyond rest) ++ new_rows local by branches) ++ shown.back));
+              (λ i. row_now path_now by is i ∷ left_is i)
+              ∙ ap (λ l. here_now ∷ l) (sym (append_assoc (rows local by moved_below below) (rows local by moved_beyond rest) (new_rows local by branches)))
+              ∙ (λ i. (here_now ∷ (rows local by (record inner { path = sym new_is i }) below ++ rows local by moved_beyond rest)) ++ new_rows local by branches);
         }
 
 -- ---- what stops the walk
@@ -342,8 +340,8 @@ stops-after had listed step others all e is = stops-same had (with_paths listed 
 -- ---- the walk
 
 -- after the first node has moved
-module _ (goal : Goal) (goals : List Goal) (limit fewer : ℕ) (r s : NodeRecord) (path : ℕ) (o : Option (RecordMap NodeRecord)) (old mid new : List PathRow)
-    (found : ForSome o (λ m. fin.get m goal.to ≡ Some r)) (one_less : limit - 1 ≡ fewer) (row_is : row_of s ≡ record (row_of r) { path = path })
+module _ (goal : Goal) (goals : List Goal) (limit fewer : ℕ) (r : NodeRecord) (path : ℕ) (o : Option (RecordMap NodeRecord)) (old mid new : List PathRow)
+    (found : ForSome o (λ m. fin.get m goal.to ≡ Some r)) (one_less : limit - 1 ≡ fewer)
     (under : IsUnder goal.kind goal.path r.label path old mid) (exchange : IsExchanged r.kind r.path path mid new) where
   -- the table and the records then
   record IsOn (listed : List (List Step)) (count : List Step → ℕ) (branches : List Branch) (shown : ShowsBranches o (goal ∷ goals) limit listed branches) : Type 0 where
@@ -370,36 +368,36 @@ module _ (goal : Goal) (goals : List Goal) (limit fewer : ℕ) (r s : NodeRecord
       }
 
   on-shown : (listed : List (List Step)) (count : List Step → ℕ) (branches : List Branch) (shown : ShowsBranches o (goal ∷ goals) limit listed branches) (on : IsOn listed count branches shown)
-      → ShowsBranches (option_map (λ m. fin.insert m goal.to s) o) (with_goal r.kind path r.first (with_goal goal.kind goal.path r.right goals)) fewer (with_paths listed (path_below goal.kind on.first.steps r.label ∷ [])) on.first.left
+      → ShowsBranches o (with_goal r.kind path r.first (with_goal goal.kind goal.path r.right goals)) fewer (with_paths listed (path_below goal.kind on.first.steps r.label ∷ [])) on.first.left
   on-shown listed count branches shown on = record {
     local = shown.local;
     number = shown.number;
-    front = shown.front ++ (goal.to, record (row_of r) { path = path }) ∷ [];
+    front = shown.front ++ (goal.to, row_of r) ∷ [];
     back = shown.back;
     begin = on.first.begin path on.at;
     few = on.first.few;
-    shows = on.first.put path s row_is;
+    shows = on.first.shows;
     numbers_are = agree-later shown.number listed (path_below goal.kind on.first.steps r.label ∷ []) (old_paths on.first.left) on.first.agree;
   }
 
-  pub repathed-more : (last : Kept) → IsRepathed (with_goal r.kind path r.first (with_goal goal.kind goal.path r.right goals)) fewer (kept (option_map (λ m. fin.insert m goal.to s) o) new) last
-      → IsRepathed (goal ∷ goals) limit (kept o old) last
+  pub repathed-more : (last : List PathRow) (rest : List (ℕ × NodeRow)) → IsRepathed (with_goal r.kind path r.first (with_goal goal.kind goal.path r.right goals)) fewer (kept o new) last rest
+      → IsRepathed (goal ∷ goals) limit (kept o old) last ((goal.to, record (row_of r) { path = path }) ∷ rest)
   unfolding IsRepathed on-shown
-  repathed-more last more listed count branches shown lists =
+  repathed-more last rest more listed count branches shown lists =
       let on = goes-on listed count branches shown lists in
       let step : List Step = path_below goal.kind on.first.steps r.label in
       let own_new : List (List Step) = own_of r.kind step in
       let left : List Branch = on.first.left in
       let done = more (with_paths listed (step ∷ [])) (more_on own_new count) left (on-shown listed count branches shown on) on.lists in
       let counts : more_on (new_paths left) (more_on own_new count) ≡ more_on (new_paths branches) count = sym (ap (λ ps. more_on ps count) on.first.new_are ∙ more-append own_new (new_paths left) count) in (
-        lists-as last.table _ _ _ counts (subst (λ l. Lists last.table l (more_on (new_paths left) (more_on own_new count))) on.first.with_is done.0),
+        lists-as last _ _ _ counts (subst (λ l. Lists last l (more_on (new_paths left) (more_on own_new count))) on.first.with_is done.0),
         λ number numbers.
             let before : Numbers number (with_paths (with_paths listed (step ∷ [])) (new_paths left)) = subst (Numbers number) (sym on.first.with_is) numbers in
             let at_last = path-with (with_paths listed (step ∷ [])) (new_paths left) step path on.at in
-            subst (Shows last.told) (on.first.rows_are path number (at_last.is ∙ sym (before.listed_are step at_last.there))) (done.1 number before),
+            ap (λ l. (goal.to, record (row_of r) { path = path }) ∷ l) (done.1 number before) ∙ on.first.rows_are path number (at_last.is ∙ sym (before.listed_are step at_last.there)),
       )
 
-  pub stops-more : (had : ℕ) (e : EditFault) → StopsRepathing (with_goal r.kind path r.first (with_goal goal.kind goal.path r.right goals)) fewer had (kept (option_map (λ m. fin.insert m goal.to s) o) new) e
+  pub stops-more : (had : ℕ) (e : EditFault) → StopsRepathing (with_goal r.kind path r.first (with_goal goal.kind goal.path r.right goals)) fewer had (kept o new) e
       → StopsRepathing (goal ∷ goals) limit had (kept o old) e
   unfolding StopsRepathing
   stops-more had e stops listed count branches shown lists room =
@@ -456,9 +454,9 @@ module _ (goal : Goal) (goals : List Goal) (limit : ℕ) (had : ℕ) (o : Option
       go around no_trees steps shown = absurd (let e : None ≡ Some goal.to = shown.begin.0.first in cc)
       go around (tree_then n below rest) steps shown = absurd (omega (arith, none, shown.few))
 
-pub repathed-none : (limit : ℕ) (o : Kept) → IsRepathed [] limit o o
+pub repathed-none : (limit : ℕ) (o : Kept) → IsRepathed [] limit o o.table []
 unfolding IsRepathed
-repathed-none limit o listed count [] shown lists = (lists, λ number numbers. shown.shows)
+repathed-none limit o listed count [] shown lists = (lists, λ number numbers. refl)
 repathed-none limit o listed count (branch ∷ branches) shown lists = absurd shown.begin
 
 pub memory-stops_repathing : (goals : List Goal) (limit had : ℕ) (o : Kept) → StopsRepathing goals limit had o OutOfMemory
@@ -476,19 +474,43 @@ fault_stops goal goals limit had o old (faults.Damaged d) none = absent-stops go
 fault_stops goal goals limit had o old faults.OutOfMemory none = memory-stops_repathing (goal ∷ goals) limit had (kept o old)
 
 -- the same at the loop's turn
-pub repathed-step : (all left : List Goal) (goal : Goal) (goals : List Goal) (limit fewer : ℕ) (r s : NodeRecord) (path : ℕ) (o now : Option (RecordMap NodeRecord)) (old mid new : List PathRow) (last : Kept) → all ≡ goal ∷ goals
-    → ForSome o (λ m. fin.get m goal.to ≡ Some r) → limit - 1 ≡ fewer → row_of s ≡ record (row_of r) { path = path } → IsUnder goal.kind goal.path r.label path old mid → IsExchanged r.kind r.path path mid new
-    → left ≡ with_goal r.kind path r.first (with_goal goal.kind goal.path r.right goals) → now ≡ option_map (λ m. fin.insert m goal.to s) o
-    → IsRepathed left fewer (kept now new) last → IsRepathed all limit (kept o old) last
-repathed-step all left goal goals limit fewer r s path o now old mid new last is there one_less row_is under exchange left_is put more =
-    rw is (repathed-more goal goals limit fewer r s path o old mid new there one_less row_is under exchange last (rw (left_is, put) at more))
+pub repathed-step : (all left : List Goal) (goal : Goal) (goals : List Goal) (limit fewer : ℕ) (r : NodeRecord) (path : ℕ) (w : NodeRow) (o now : Option (RecordMap NodeRecord)) (old mid new last : List PathRow) (rest : List (ℕ × NodeRow)) → all ≡ goal ∷ goals
+    → ForSome o (λ m. fin.get m goal.to ≡ Some r) → limit - 1 ≡ fewer → w ≡ record (row_of r) { path = path } → IsUnder goal.kind goal.path r.label path old mid → IsExchanged r.kind r.path path mid new
+    → left ≡ with_goal r.kind path r.first (with_goal goal.kind goal.path r.right goals) → now ≡ o
+    → IsRepathed left fewer (kept now new) last rest → IsRepathed all limit (kept o old) last ((goal.to, w) ∷ rest)
+repathed-step all left goal goals limit fewer r path w o now old mid new last rest is there one_less row_is under exchange left_is same more =
+    rw (is, row_is) (repathed-more goal goals limit fewer r path o old mid new there one_less under exchange last rest (rw (left_is, same) at more))
 
-pub stops-step_on : (all left : List Goal) (goal : Goal) (goals : List Goal) (limit fewer : ℕ) (r s : NodeRecord) (path : ℕ) (o now : Option (RecordMap NodeRecord)) (old mid new : List PathRow) (had : ℕ) (e : EditFault) → all ≡ goal ∷ goals
-    → ForSome o (λ m. fin.get m goal.to ≡ Some r) → limit - 1 ≡ fewer → row_of s ≡ record (row_of r) { path = path } → IsUnder goal.kind goal.path r.label path old mid → IsExchanged r.kind r.path path mid new
-    → left ≡ with_goal r.kind path r.first (with_goal goal.kind goal.path r.right goals) → now ≡ option_map (λ m. fin.insert m goal.to s) o
+-- what moved so far, with what is left
+pub repathed-on : (goals : List Goal) (limit : ℕ) (before : Kept) (last : List PathRow) (moved all : List Seen) (seen : Seen) (rest : List (ℕ × NodeRow)) → all ≡ moved ++ seen ∷ []
+    → IsRepathed goals limit before last (entries_of moved ++ entry_of seen ∷ rest) → IsRepathed goals limit before last (entries_of all ++ rest)
+repathed-on goals limit before last moved all seen rest is =
+    subst (IsRepathed goals limit before last) (sym (ap (λ l. entries_of l ++ rest) is ∙ ap (λ l. l ++ rest) (map-append entry_of moved (seen ∷ [])) ∙ append_assoc (entries_of moved) (entry_of seen ∷ []) rest))
+
+pub repathed-end : (goals now_goals : List Goal) (limit now_limit : ℕ) (before now : Kept) (moved : List Seen)
+    → ((last : List PathRow) (rest : List (ℕ × NodeRow)) → IsRepathed now_goals now_limit now last rest → IsRepathed goals limit before last (entries_of moved ++ rest)) → now_goals ≡ [] → IsRepathed goals limit before now.table (entries_of moved)
+repathed-end goals now_goals limit now_limit before now moved moves is =
+    subst (IsRepathed goals limit before now.table) (append-nil (entries_of moved)) (moves now.table [] (rw is (repathed-none now_limit now)))
+
+pub stops-step_on : (all left : List Goal) (goal : Goal) (goals : List Goal) (limit fewer : ℕ) (r : NodeRecord) (path : ℕ) (o now : Option (RecordMap NodeRecord)) (old mid new : List PathRow) (had : ℕ) (e : EditFault) → all ≡ goal ∷ goals
+    → ForSome o (λ m. fin.get m goal.to ≡ Some r) → limit - 1 ≡ fewer → IsUnder goal.kind goal.path r.label path old mid → IsExchanged r.kind r.path path mid new
+    → left ≡ with_goal r.kind path r.first (with_goal goal.kind goal.path r.right goals) → now ≡ o
     → StopsRepathing left fewer had (kept now new) e → StopsRepathing all limit had (kept o old) e
-stops-step_on all left goal goals limit fewer r s path o now old mid new had e is there one_less row_is under exchange left_is put more =
-    rw is (stops-more goal goals limit fewer r s path o old mid new there one_less row_is under exchange had e (rw (left_is, put) at more))
+stops-step_on all left goal goals limit fewer r path o now old mid new had e is there one_less under exchange left_is same more =
+    rw is (stops-more goal goals limit fewer r path o old mid new there one_less under exchange had e (rw (left_is, same) at more))
+
+-- the links that are told
+pub lead-push : (o : Option (RecordMap NodeRecord)) (moves : List Move) (move : Move) → LeadsTo o move.from move.to → AllLead o moves → AllLead o (moves ++ move ∷ [])
+lead-push o [] move leads all = (leads, tt)
+lead-push o (m ∷ moves) move leads all = (all.0, lead-push o moves move leads all.1)
+
+pub lead-pop : (o : Option (RecordMap NodeRecord)) (old new : List Move) (popped : Option Move) → old ≡ new ++ option_to_list popped → AllLead o old → AllLead o new × IfSome popped (λ at. LeadsTo o at.from at.to)
+lead-pop o old new None is all = (subst (AllLead o) (is ∙ append-nil new) all, tt)
+lead-pop o old new (Some move) is all = last new (subst (AllLead o) is all)
+  where
+    last : (moves : List Move) → AllLead o (moves ++ move ∷ []) → AllLead o moves × LeadsTo o move.from move.to
+    last [] all = (tt, all.0)
+    last (m ∷ moves) all = let more = last moves all.1 in ((all.0, more.0), more.1)
 
 -- what stops a turn stops all of it
 module _ (first all : List Goal) (next limit had : ℕ) (start now : Kept) (goes : (e : EditFault) → StopsRepathing all limit had now e → StopsRepathing first next had start e) where
@@ -511,5 +533,42 @@ module _ (first all : List Goal) (next limit had : ℕ) (start now : Kept) (goes
   pub turn-endless : (goal : Goal) (goals : List Goal) (e : EditFault) → all ≡ goal ∷ goals → limit ≡ 0 → StopsRepathing first next had start e
   turn-endless goal goals e is none = goes e (rw is (endless-stops goal goals limit had now.told now.table e none))
 
-pub put-told : (k : ℕ) (s : NodeRecord) (before read after : Option (RecordMap NodeRecord)) → after ≡ option_map (λ m. fin.insert m k s) read → read ≡ before → after ≡ option_map (λ m. fin.insert m k s) before
-put-told k s before read after put same = put ∙ ap (option_map (λ m. fin.insert m k s)) same
+-- over the same records
+pub stops-there : (goals : List Goal) (limit had : ℕ) (o now : Option (RecordMap NodeRecord)) (table : List PathRow) (e : EditFault) → now ≡ o → StopsRepathing goals limit had (kept now table) e → StopsRepathing goals limit had (kept o table) e
+stops-there goals limit had o now table e same = subst (λ q. StopsRepathing goals limit had (kept q table) e) same
+
+pub repathed-there : (goals : List Goal) (limit : ℕ) (o now : Option (RecordMap NodeRecord)) (table last : List PathRow) (moved : List (ℕ × NodeRow)) → now ≡ o → IsRepathed goals limit (kept now table) last moved → IsRepathed goals limit (kept o table) last moved
+repathed-there goals limit o now table last moved same = subst (λ q. IsRepathed goals limit (kept q table) last moved) same
+
+-- ---- the nodes that move
+
+abbrev pub goal_tops : List Goal → List ℕ
+goal_tops goals = map (λ goal. goal.to) goals
+
+pub tops-goal : (kind : Kind) (path : ℕ) (to : Option ℕ) (goals : List Goal) → goal_tops (with_goal kind path to goals) ≡ with_top to (goal_tops goals)
+tops-goal kind path None goals = refl
+tops-goal kind path (Some k) goals = refl
+
+pub moved-on : (tops : List ℕ) (limit : ℕ) (o : Option (RecordMap NodeRecord)) (moved all : List Seen) (seen : Seen) (rest : List ℕ) → all ≡ moved ++ seen ∷ []
+    → IsWalked tops limit o (numbers_of (entries_of moved) ++ seen.node ∷ rest) → IsWalked tops limit o (numbers_of (entries_of all) ++ rest)
+moved-on tops limit o moved all seen rest is =
+    subst (IsWalked tops limit o) (sym (ap (λ l. numbers_of (entries_of l) ++ rest) is ∙ ap (λ l. numbers_of l ++ rest) (map-append entry_of moved (seen ∷ []))
+    ∙ ap (λ l. l ++ rest) (map-append (λ (e : ℕ × NodeRow). e.0) (entries_of moved) (entry_of seen ∷ [])) ∙ append_assoc (numbers_of (entries_of moved)) (seen.node ∷ []) rest))
+
+-- nothing has moved at first
+pub start-moves : (kind : Kind) (path : ℕ) (first : Option ℕ) (limit less : ℕ) (before : Kept) (last : List PathRow) (all : List Goal) (empty : List Move) (none : List Seen) (rest : List (ℕ × NodeRow)) → all ≡ with_goal kind path first (goals_of empty)
+    → empty ≡ [] → none ≡ [] → less ≡ limit → IsRepathed all less before last rest → IsRepathed (first_goals kind path first) limit before last (entries_of none ++ rest)
+start-moves kind path first limit less before last all empty none rest is empty_is none_is less_is more =
+    rw none_is
+    (subst (λ gs. IsRepathed gs limit before last rest) (is ∙ ap (λ e. with_goal kind path first (goals_of e)) empty_is) (subst (λ l. IsRepathed all l before last rest) less_is more))
+
+pub start-stops : (kind : Kind) (path : ℕ) (first : Option ℕ) (limit less had : ℕ) (before : Kept) (e : EditFault) (all : List Goal) (empty : List Move) → all ≡ with_goal kind path first (goals_of empty)
+    → empty ≡ [] → less ≡ limit → StopsRepathing all less had before e → StopsRepathing (first_goals kind path first) limit had before e
+start-stops kind path first limit less had before e all empty is empty_is less_is more =
+    subst (λ gs. StopsRepathing gs limit had before e) (is ∙ ap (λ m. with_goal kind path first (goals_of m)) empty_is) (subst (λ l. StopsRepathing all l had before e) less_is more)
+
+pub start-walks : (kind : Kind) (path : ℕ) (first : Option ℕ) (limit less : ℕ) (o : Option (RecordMap NodeRecord)) (all : List Goal) (empty : List Move) (none : List Seen) (rest : List ℕ) → all ≡ with_goal kind path first (goals_of empty)
+    → empty ≡ [] → none ≡ [] → less ≡ limit → IsWalked (goal_tops all) less o rest → IsWalked (first_tops first) limit o (numbers_of (entries_of none) ++ rest)
+start-walks kind path first limit less o all empty none rest is empty_is none_is less_is more =
+    rw none_is
+    (subst (λ ks. IsWalked ks limit o rest) (ap goal_tops (is ∙ ap (λ m. with_goal kind path first (goals_of m)) empty_is) ∙ tops-goal kind path first []) (subst (λ l. IsWalked (goal_tops all) l o rest) less_is more))

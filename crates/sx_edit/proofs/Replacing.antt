@@ -27,7 +27,10 @@ use Rattle.sx_model.proofs.Plugging.{above, fit_back}
 use Rattle.sx_edit.specs.declared.fault.EditFault.{EditFault}
 use Rattle.sx_edit.specs.declared.fault.EditFault.TheVariants.{Refused}
 use Rattle.sx_edit.specs.declared.trees.Gap.{Gap}
+use Rattle.sx_edit.specs.declared.trees.Rim.{Rim}
 use Rattle.sx_edit.specs.declared.trees.Tree.{Tree}
+use Rattle.sx_edit.specs.Seen.{IsRim}
+use Rattle.sx_edit.proofs.Rimming.{around-of}
 use Rattle.sx_edit.specs.Answers.{AreOf, Answers, AnswersEach, IsTableOf}
 use Rattle.sx_edit.specs.Pathways.{HasAll, IsPathAt, Kept, Lists, Numbers, kept, own_path}
 use Rattle.sx_edit.specs.Edited.{rows_in}
@@ -151,16 +154,16 @@ module _ (k : ℕ) (v : Value) (next : ℕ) (r : NodeRecord) where
       (λ told stands. is_apply ∙ either _ _ (paths_spent state (replaced state) ∷ []) (replaced state) told stands))
 
   -- a value comes in the place of the node
-  opened-for : (state : State) (before mid : Option (RecordMap NodeRecord)) (mid_table : List PathRow) (parent : ℕ) (gap : Gap) (tree : Tree) (trees : Forest) (frames : List Frame) (left : Forest) (n : Node) (below right : Forest)
-      → row_of r ≡ own_row local_hash (number_of state.paths) frames left n below right → n.number ≡ k → is_value r.kind ≡ true → IsCut k next parent r gap tree → IsTakenOut k r.first next before mid
+  opened-for : (state : State) (before mid : Option (RecordMap NodeRecord)) (mid_table : List PathRow) (parent : ℕ) (gap : Gap) (rim : Rim) (tree : Tree) (trees : Forest) (frames : List Frame) (left : Forest) (n : Node) (below right : Forest)
+      → row_of r ≡ own_row local_hash (number_of state.paths) frames left n below right → n.number ≡ k → is_value r.kind ≡ true → IsCut k next parent r gap tree → IsRim before gap rim → IsTakenOut k r.first next before mid
       → size (plug frames (beside left (tree_then n below right))) ≤ next → AreBelow next (numbers (plug frames (beside left (tree_then n below right)))) → FitBelow None (plug frames (beside left (tree_then n below right)))
       → IsPathAt state.paths (own_path (around_hole frames) n) r.path → Lists mid_table state.paths (counts_around (paths_left frames left) (paths_right frames right))
       → HasAll state.paths (paths_left frames left) → HasAll state.paths (paths_right frames right) → ((other : List Step) → counts_around (paths_left frames left) (paths_right frames right) other + nodes v < 2 ^ 32)
       → ((number : List Step → ℕ) → Numbers number state.paths → Shows before (rows_in number (plug frames (beside left (tree_then n below right)))))
-      → plug frames (beside left (beside (numbered v next no_trees) right)) ≡ trees → IsComing state next gap (Some tree) None v r.path (kept mid mid_table) trees
-  opened-for state before mid mid_table parent gap tree trees [] left n below right row same value cut taken few below_next fit at_path lists front back room shows trees_are =
+      → plug frames (beside left (beside (numbered v next no_trees) right)) ≡ trees → IsComing state next gap rim (Some tree) None v r.path (kept mid mid_table) trees
+  opened-for state before mid mid_table parent gap rim tree trees [] left n below right row same value cut is_rim taken few below_next fit at_path lists front back room shows trees_are =
       absurd (let none : r.parent ≡ None = ap (λ (w : NodeRow). w.parent) row in let up = cut.up in cc)
-  opened-for state before mid mid_table parent gap tree trees (frame ∷ frames) left n below right row same value cut taken few below_next fit at_path lists front back room shows trees_are =
+  opened-for state before mid mid_table parent gap rim tree trees (frame ∷ frames) left n below right row same value cut is_rim taken few below_next fit at_path lists front back room shows trees_are =
       let kind : is_value n.kind ≡ true = sym (ap (λ (w : NodeRow). is_value w.kind) row) ∙ value in
       let inside : Forest = beside left (tree_then n below right) in
       let fit_here = fit_back (above (frame ∷ frames)) left (tree_then n below right) (fit_inside (frame ∷ frames) inside fit) in
@@ -180,34 +183,42 @@ module _ (k : ℕ) (v : Value) (next : ℕ) (r : NodeRecord) where
         front = front;
         back = back;
         room = room;
-        shows = λ number numbers_are. (below-left number next frames frame left n below right below_next, (left_at number numbers_are).shows);
+        shows = λ number numbers_are. (
+          below-left number next frames frame left n below right below_next,
+          record {
+            around = around-of local_hash number frames frame left (tree_then n below no_trees) right gap before own.parent own.left own.right (shows number numbers_are) rim is_rim;
+            shows = (left_at number numbers_are).shows;
+          },
+        );
       }
 
   -- what was known before the value came in the place of the node
-  pub record IsReplacing (before mid : Option (RecordMap NodeRecord)) (table mid_table : List PathRow) (parent had : ℕ) (gap : Gap) (tree : Tree) : Type 0 where
+  pub record IsReplacing (before mid : Option (RecordMap NodeRecord)) (table mid_table : List PathRow) (parent had : ℕ) (gap : Gap) (rim : Rim) (tree : Tree) : Type 0 where
     pub there : ForSome before (λ m. fin.get m k ≡ Some r)
     pub value : is_value r.kind ≡ true
     pub cut : IsCut k next parent r gap tree
+    pub rimmed : IsRim before gap rim
     pub taken : IsTakenOut k r.first next before mid
     pub left_out : IsLeftOut k r next (kept before table) (Some mid_table)
     pub had_is : had ≡ min (length table) (2 ^ 32 - 1)
     pub room : next + nodes v ≤ 2 ^ 30
 
-  pub replacing-after : (before told mid : Option (RecordMap NodeRecord)) (table mid_table : List PathRow) (parent had : ℕ) (gap : Gap) (tree : Tree) → told ≡ before → ForSome before (λ m. fin.get m k ≡ Some r) → is_value r.kind ≡ true
-      → IsCut k next parent r gap tree → IsTakenOut k r.first next told mid → IsLeftOut k r next (kept told table) (Some mid_table) → had ≡ min (length table) (2 ^ 32 - 1) → next + nodes v ≤ 2 ^ 30
-      → IsReplacing before mid table mid_table parent had gap tree
-  replacing-after before told mid table mid_table parent had gap tree same there value cut taken left_out had_is room = record {
+  pub replacing-after : (before told mid : Option (RecordMap NodeRecord)) (table mid_table : List PathRow) (parent had : ℕ) (gap : Gap) (rim : Rim) (tree : Tree) → told ≡ before → ForSome before (λ m. fin.get m k ≡ Some r) → is_value r.kind ≡ true
+      → IsCut k next parent r gap tree → IsRim before gap rim → IsTakenOut k r.first next told mid → IsLeftOut k r next (kept told table) (Some mid_table) → had ≡ min (length table) (2 ^ 32 - 1) → next + nodes v ≤ 2 ^ 30
+      → IsReplacing before mid table mid_table parent had gap rim tree
+  replacing-after before told mid table mid_table parent had gap rim tree same there value cut rimmed taken left_out had_is room = record {
     there = there;
     value = value;
     cut = cut;
+    rimmed = rimmed;
     taken = subst (λ o. IsTakenOut k r.first next o mid) same taken;
     left_out = subst (λ o. IsLeftOut k r next (kept o table) (Some mid_table)) same left_out;
     had_is = had_is;
     room = room;
   }
 
-  module _ (before mid : Option (RecordMap NodeRecord)) (table mid_table : List PathRow) (parent had : ℕ) (gap : Gap) (tree : Tree) (is : IsReplacing before mid table mid_table parent had gap tree) where
-    replacing : (state : State) (are : AreOf state next before) → IsTableOf state table → (s : IsSeen k state before r) → IsComing state next gap (Some tree) None v r.path (kept mid mid_table) (replaced state).trees
+  module _ (before mid : Option (RecordMap NodeRecord)) (table mid_table : List PathRow) (parent had : ℕ) (gap : Gap) (rim : Rim) (tree : Tree) (is : IsReplacing before mid table mid_table parent had gap rim tree) where
+    replacing : (state : State) (are : AreOf state next before) → IsTableOf state table → (s : IsSeen k state before r) → IsComing state next gap rim (Some tree) None v r.path (kept mid mid_table) (replaced state).trees
     replacing state are of_state s =
         let frames : List Frame = s.at.around in
         let whole : Forest = plug frames (beside s.at.left (tree_then s.at.node s.at.below s.at.right)) in
@@ -216,7 +227,7 @@ module _ (k : ℕ) (v : Value) (next : ℕ) (r : NodeRecord) where
         let site = sited state table frames s.at.left (tree_then s.at.node s.at.below no_trees) s.at.right of_state s.at.stands in
         let trees_are : plug frames (beside s.at.left (beside (numbered v next no_trees) s.at.right)) ≡ (replaced state).trees =
         ap (λ t. plug frames (beside s.at.left t)) (beside-numbered v next no_trees s.at.right ∙ (λ i. numbered v (sym are.next_is i) s.at.right)) ∙ sym (s.at.changed (λ n below rest. numbered v state.next rest)) in
-        opened-for state before mid mid_table parent gap tree (replaced state).trees frames s.at.left s.at.node s.at.below s.at.right s.row s.at.number is.value is.cut is.taken few
+        opened-for state before mid mid_table parent gap rim tree (replaced state).trees frames s.at.left s.at.node s.at.below s.at.right s.row s.at.number is.value is.cut is.rimmed is.taken few
         (subst (λ t. AreBelow next (numbers t)) s.at.stands (are-below next (numbers state.trees) are.below_next)) fit (own-listed k state before r table s site is.value)
         (cut-lists k next r state before table (Some mid_table) are s of_state is.left_out) site.before site.behind
         (counts-room (paths_left frames s.at.left) _ (paths_right frames s.at.right) state.trees (nodes v) next site.paths_are are.few (omega (arith, is.room)))
@@ -233,21 +244,21 @@ module _ (k : ℕ) (v : Value) (next : ℕ) (r : NodeRecord) where
         ∙ past _ _ (paths_spent state new ∷ []) new none
 
     pub replace-done : {T : Type 0} (now : Option (RecordMap NodeRecord)) (count more : ℕ) (step : Result T EditFault) (done : T) (after : Kept) → now ≡ before → step ≡ Ok done → count ≡ nodes v → more ≡ nodes v
-        → MakesRoom next parent v count now step → IsFilled next gap (Some tree) (enters None v r.path had) (kept mid mid_table) after
+        → MakesRoom next parent v count now step → IsFilled next gap rim (Some tree) (enters None v r.path had) (kept mid mid_table) after
         → AnswersEach (replace k v) next (kept before table) after (Ok (record { first = Some next; next = next + more }))
     unfolding AnswersEach
     replace-done now count more step done after same step_is count_is more_is makes filled state are of_state =
         let s = seen k state next before r are is.there in
         let new : State = replaced state in
-        let came = coming-done state next (nodes v) had gap (Some tree) None v r.path (kept mid mid_table) new.trees (replacing state are of_state s) after filled in
+        let came = coming-done state next (nodes v) had gap rim (Some tree) None v r.path (kept mid mid_table) new.trees (replacing state are of_state s) after filled in
         let number_is : next + more ≡ state.next + nodes v = omega (arith, are.next_is, more_is) in
         (new, replace-free now count step done state are s same step_is count_is makes ∙ came.0, (λ i. record { first = Some (sym are.next_is i); next = number_is i }), came.1, came.2)
 
     pub replace-stops : {T : Type 0} (now : Option (RecordMap NodeRecord)) (count : ℕ) (step : Result T EditFault) (done : T) (after : Kept) (e : EditFault) → now ≡ before → step ≡ Ok done → count ≡ nodes v
-        → MakesRoom next parent v count now step → StopsFilling next gap (Some tree) (enters None v r.path had) (kept mid mid_table) e
+        → MakesRoom next parent v count now step → StopsFilling next gap rim (Some tree) (enters None v r.path had) (kept mid mid_table) e
         → AnswersEach (replace k v) next (kept before table) after (Err e)
     unfolding AnswersEach
     replace-stops now count step done after e same step_is count_is makes stops state are of_state =
         let s = seen k state next before r are is.there in
-        coming-stops state next (nodes v) had gap (Some tree) None v r.path (kept mid mid_table) (replaced state).trees (replacing state are of_state s) (replace k v) after e
+        coming-stops state next (nodes v) had gap rim (Some tree) None v r.path (kept mid mid_table) (replaced state).trees (replacing state are of_state s) (replace k v) after e
         (had-paths had table state is.had_is of_state) (replace-free now count step done state are s same step_is count_is makes) stops

@@ -1,5 +1,5 @@
 -- What an error that goes on keeps.
-use Rattle.std.proofs.Common.{◌≡◌, sym, subst}
+use Rattle.std.proofs.Common.{◌≡◌, ◌+◌, ◌++◌, ◌∷◌, [], List, length, length-append, ap, arith, sym, subst}
 use Rattle.std.specs.Prelude.{Result, Ok, Err, IfErr, IfOk, IsErrAnd, OnOk}
 
 pub err_again : {T E : Type 0} (r : Result T E) (y : E) (P : E → Type 0) → IsErrAnd r (λ e. e ≡ y) → P y → IfErr r P
@@ -17,3 +17,7 @@ if_err-then (Err e) P Q f p = f e p
 pub if_ok-then : {T E : Type 0} (r : Result T E) (P Q : T → Type 0) → ((x : T) → P x → Q x) → IfOk r P → IfOk r Q
 if_ok-then (Ok x) P Q f p = f x p
 if_ok-then (Err e) P Q f p = p
+
+-- a list with one more
+pub pushed-length : {T : Type 0} (old new : List T) (x : T) → new ≡ old ++ x ∷ [] → length new ≡ length old + 1
+pushed-length old new x is = omega (arith, ap length is, length-append old (x ∷ []))

@@ -1,6 +1,7 @@
 -- What setting a scalar answers over the records of a state.
 use Rattle.std.proofs.Common.{◌≡◌, ℕ, ◌+◌, ◌≤◌, Bool, true, false, cond, List, [], ◌∷◌, ◌++◌, Option, Some, None, refl, sym, ap, subst, ◌∙◌, arith}
-use Rattle.std.specs.Prelude.{Ok, Err, not, length}
+use Rattle.std.specs.Prelude.{Ok, Err, not, length, reverse}
+use Rattle.std.proofs.lemmas.List.{length-reverse}
 use Rattle.std.specs.Option.{ForSome}
 use Rattle.std.specs.FinMap as fin
 use Rattle.sx_tree.specs.declared.edit.EditRefusal.TheVariants.{WrongKind}
@@ -15,22 +16,27 @@ use Rattle.sx_model.specs.Hash.{local_hash}
 use Rattle.sx_model.specs.Numbered.{scalar_node}
 use Rattle.sx_model.specs.Paths.{number_of, paths_below, paths_in, with_paths}
 use Rattle.sx_model.specs.State.{State}
-use Rattle.sx_model.specs.Tree.{Node, Forest, no_trees, tree_then, beside, is_scalar, is_value, change_at, FitBelow, Spot, spot, size}
+use Rattle.sx_model.specs.Tree.{Node, Forest, no_trees, tree_then, beside, is_scalar, is_value, change_at, FitBelow, Spot, size}
 use Rattle.sx_model.specs.Holes.{Frame, around_hole, plug, shown}
 use Rattle.sx_model.specs.Records.{Around, NodeRow, PathRow, around_children, rows}
 use Rattle.sx_model.proofs.Holes.{rows-plug}
 use Rattle.sx_model.proofs.Plugging.{above, fit_back}
-use Rattle.sx_edit.specs.Room.{nodes_of}
+use Rattle.sx_edit.specs.Room.{CountsLevels, nodes_of}
 use Rattle.sx_edit.specs.declared.fault.EditFault.TheVariants.{Refused}
-use Rattle.sx_edit.specs.Told.{Shows, Moment}
-use Rattle.sx_edit.specs.Edited.{Standing, labeled, rows_in, rows_with, trees_around, IsRelabeled, CannotRelabel}
-use Rattle.sx_edit.specs.Answers.{AreOf, AnswersEach, IsTableOf}
+use Rattle.sx_edit.specs.Seen.{IsChain, entries_of, upward}
+use Rattle.sx_edit.specs.Told.{Shows}
+use Rattle.sx_edit.specs.declared.trees.Seen.{Seen}
+use Rattle.sx_edit.specs.Edited.{Standing, labeled, rows_in, rows_with, trees_around, IsRelabeled}
+use Rattle.sx_edit.specs.Answers.{AreOf, AnswersEach, GetsFew, IsTableOf}
 use Rattle.sx_edit.specs.Pathways.{Kept, Lists, kept, more_on, own_of, own_path, paths_under}
 use Rattle.sx_edit.proofs.Looking.{Looked, nowhere, somewhere, look, IsSeen}
 use Rattle.sx_edit.proofs.Answering.{IsNoState}
 use Rattle.sx_edit.proofs.Pathing.{with-all}
 use Rattle.sx_edit.proofs.Sited.{fit_inside, scalar-alone, scalar-value, sited, value-path}
-use Rattle.sx_edit.proofs.Standing.{rows-own}
+use Rattle.sx_edit.proofs.Climbing.{parent-around_hole}
+use Rattle.sx_edit.proofs.Failing.{length-rows_above}
+use Rattle.sx_edit.proofs.Relabeling.{deep-plug, standing-rows}
+use Rattle.sx_edit.proofs.Standing.{new-whole, rows-own}
 use Rattle.sx_edit.proofs.Swapping.{counts_around, state-paths, paths-room, table-around}
 use Rattle.sx_edit.proofs.TreePaths.{paths-among, paths_left, paths_right}
 
@@ -66,6 +72,21 @@ pub rows-standing : (number : List Step → ℕ) (at : Standing) → rows_in num
 rows-standing number at =
     let inside : Forest = beside at.before (tree_then at.node at.below at.behind) in
     rows-plug local_hash number at.frames inside ∙ rows-own local_hash number at.frames (shown local_hash inside) at.before at.node at.below at.behind
+
+pub length_entries : (seens : List Seen) → length (entries_of seens) ≡ length seens
+length_entries [] = refl
+length_entries (seen ∷ seens) = omega (arith, length_entries seens)
+
+pub length-upward : (seens : List Seen) → length (upward seens) ≡ length seens
+length-upward seens = length_entries (reverse seens) ∙ length-reverse seens
+
+-- so many nodes are above a node as were read
+pub seen-length : (k : ℕ) (state : State) (next : ℕ) (o : Option (RecordMap NodeRecord)) (r : NodeRecord) (are : AreOf state next o) (s : IsSeen k state o r) (above : List Seen) → IsChain o r.parent (reverse above) → length above ≡ length s.at.around
+seen-length k state next o r are s above chain =
+    let number : List Step → ℕ = number_of state.paths in
+    let at : Standing = standing s in
+    let above_is = standing-rows number at r (ap (λ (w : NodeRow). w.parent) s.row) o _ _ above (subst (Shows o) (rows-standing number at) s.shows) chain in
+    sym (length-upward above) ∙ sym (ap length above_is) ∙ length-rows_above local_hash number s.at.around _
 
 module _ (k : ℕ) (scalar : Scalar) (next : ℕ) (r : NodeRecord) where
   abbrev scalar_set : State → State
@@ -130,24 +151,25 @@ module _ (k : ℕ) (scalar : Scalar) (next : ℕ) (r : NodeRecord) where
         of_state = table-around state 0 (scalar_set state).trees xs mid ys new_paths site.before site.behind table (subst (λ (l : List (List Step)). Lists table l (more_on mid (counts_around xs ys))) (sym with_is) site.lists);
       }
 
-  pub scalar-done : (kind : Kind) (label : List ℕ) (old read new : Moment) (table : List PathRow) → ForSome old.told (λ m. fin.get m k ≡ Some r) → is_scalar r.kind ≡ true
-      → ((j : ℕ) → scalar_node j scalar ≡ record { number = j; kind = kind; label = label }) → read.told ≡ old.told → IsRelabeled k kind label r.path read new
-      → AnswersEach (set_scalar k scalar) next (kept old.told table) (kept new.told table) (Ok (record { first = None; next = next }))
+  pub scalar-done : (kind : Kind) (label : List ℕ) (above : List Seen) (old read new : Option (RecordMap NodeRecord)) (table : List PathRow) → ForSome old (λ m. fin.get m k ≡ Some r) → is_scalar r.kind ≡ true
+      → ((j : ℕ) → scalar_node j scalar ≡ record { number = j; kind = kind; label = label }) → read ≡ old → IsChain old r.parent (reverse above) → IsRelabeled k kind label r.path (upward above) read new
+      → AnswersEach (set_scalar k scalar) next (kept old table) (kept new table) (Ok (record { first = None; next = next }))
   unfolding AnswersEach IsRelabeled
-  scalar-done kind label old read new table there right labels same relabeled state are of_state =
-      let s = seen k state next old.told r are there in
+  scalar-done kind label above old read new table there right labels same chain relabeled state are of_state =
+      let s = seen k state next old r are there in
       let n : Node = s.at.node in
       let number : List Step → ℕ = number_of state.paths in
       let kind_is : r.kind ≡ n.kind = ap (λ (w : NodeRow). w.kind) s.row in
       let new_state : State = scalar_set state in
-      let set = set-scalar state old.told table are s kind label of_state right (sym (ap (λ (n : Node). is_scalar n.kind) (labels 0)) ∙ scalar-kind_of scalar 0) labels in
+      let set = set-scalar state old table are s kind label of_state right (sym (ap (λ (n : Node). is_scalar n.kind) (labels 0)) ∙ scalar-kind_of scalar 0) labels in
       let is_apply = ap (if_there k (λ q. unless (wrong_kind (not (is_scalar q.node.kind)) q.node ∷ paths_spent state new_state ∷ []) new_state)) s.at.spot
       ∙ ap (λ (b : Bool). unless (wrong_kind (not b) n ∷ paths_spent state new_state ∷ []) new_state) (ap is_scalar (sym kind_is) ∙ right) in
       let at : Standing = standing s in
       let now : Standing = labeled at kind label in
-      let shows_read : Shows read.told (rows_in number (trees_around at)) = subst (λ o. Shows o (rows_in number (trees_around at))) (sym same) s.shows in
+      let shows_read : Shows read (rows_in number (trees_around at)) = subst (λ o. Shows o (rows_in number (trees_around at))) (sym same) s.shows in
       let inner : List (ℕ × NodeRow) = rows local_hash number (around_children (around_hole at.frames) n) at.below in
-      let shows = (relabeled number at (number (own_path (around_hole at.frames) n)) inner s.at.number (subst (Shows read.told) (rows-standing number at) shows_read)).0 in
+      let above_is = standing-rows number at r (ap (λ (w : NodeRow). w.parent) s.row) old _ inner above (subst (Shows old) (rows-standing number at) s.shows) chain in
+      let shows = relabeled number at (number (own_path (around_hole at.frames) n)) inner s.at.number above_is (subst (Shows read) (rows-standing number at) shows_read) in
       let inner_is : inner ≡ rows local_hash number (around_children (around_hole at.frames) now.node) at.below =
       (λ i. rows local_hash number (around_children (around_hole at.frames) n) (set.below_is i)) ∙ (λ i. rows local_hash number (around_children (around_hole at.frames) now.node) (sym set.below_is i)) in
       let rows_are : rows_with number now r.path inner ≡ rows_in number new_state.trees =
@@ -156,30 +178,31 @@ module _ (k : ℕ) (scalar : Scalar) (next : ℕ) (r : NodeRecord) where
         new_state,
         is_apply ∙ set.room,
         (λ i. record { first = None; next = number_is i }),
-        (subst (λ (l : List (List Step)). Shows new.told (rows_in (number_of l) new_state.trees)) (sym set.paths_are) (subst (Shows new.told) rows_are shows)).holds,
+        (subst (λ (l : List (List Step)). Shows new (rows_in (number_of l) new_state.trees)) (sym set.paths_are) (subst (Shows new) rows_are shows)).holds,
         set.of_state,
       )
 
   -- the node and those above it are got, each once
-  pub scalar-gets : (kind : Kind) (label : List ℕ) (path : ℕ) (old read new : Moment) → ForSome old.told (λ m. fin.get m k ≡ Some r)
-      → read.told ≡ old.told → read.gets ≤ old.gets + 1 → IsRelabeled k kind label path read new
-      → (state : State) → AreOf state next old.told → (q : Spot) → spot k state.trees ≡ Some q → new.gets ≤ old.gets + (length q.above + 1)
-  unfolding IsRelabeled
-  scalar-gets kind label path old read new there same once relabeled state are q is =
-      let s = seen k state next old.told r are there in
-      let number : List Step → ℕ = number_of state.paths in
-      let at : Standing = standing s in
-      let shows_read : Shows read.told (rows_in number (trees_around at)) = subst (λ o. Shows o (rows_in number (trees_around at))) (sym same) s.shows in
-      let few = (relabeled number at _ _ s.at.number (subst (Shows read.told) (rows-standing number at) shows_read)).1 in
+  pub scalar-gets : (above : List Seen) (old : Option (RecordMap NodeRecord)) (gets now after : ℕ) → ForSome old (λ m. fin.get m k ≡ Some r) → IsChain old r.parent (reverse above)
+      → now ≤ gets + 1 → after ≤ now + length above → GetsFew k next old gets after
+  unfolding GetsFew
+  scalar-gets above old gets now after there chain once climbed state are q is =
+      let s = seen k state next old r are there in
       let above_is : nodes_of s.at.around ≡ q.above = ap (λ (q : Spot). q.above) (spot_is _ _ (sym s.at.spot ∙ is)) in
-      let many = ap length above_is in
-      omega (arith, length-nodes_of s.at.around)
+      omega (arith, ap length above_is, length-nodes_of s.at.around, seen-length k state next old r are s above chain)
 
-pub relabel-cannot : (k next : ℕ) (r : NodeRecord) (before read : Option (RecordMap NodeRecord)) → ForSome before (λ m. fin.get m k ≡ Some r) → read ≡ before → CannotRelabel k next read → IsNoState next before
-unfolding IsNoState CannotRelabel
-relabel-cannot k next r before read there same cannot state are =
+pub climb-cannot : (k next : ℕ) (r : NodeRecord) (before : Option (RecordMap NodeRecord)) → ForSome before (λ m. fin.get m k ≡ Some r) → CountsLevels r.parent next before None → IsNoState next before
+unfolding IsNoState CountsLevels
+climb-cannot k next r before there counts state are =
     let s = seen k state next before r are there in
     let number : List Step → ℕ = number_of state.paths in
-    let at : Standing = standing s in
-    let few : size (trees_around at) ≤ next = subst (λ t. size t ≤ next) s.at.stands are.few in
-    cannot number at _ _ s.at.number few (subst (Shows read) (rows-standing number at) (subst (λ o. Shows o (rows_in number (trees_around at))) (sym same) s.shows))
+    let inside : Forest = beside s.at.left (tree_then s.at.node s.at.below s.at.right) in
+    let hole : List (ℕ × NodeRow) = rows local_hash number (around_hole s.at.around) inside in
+    let few : size (plug s.at.around inside) ≤ next = subst (λ t. size t ≤ next) s.at.stands are.few in
+    let all = subst (Shows before) (rows-plug local_hash number s.at.around inside) s.shows in
+    let up = sym (ap (λ (w : NodeRow). w.parent) s.row ∙ parent-around_hole local_hash number s.at.around) in
+    let none = counts local_hash number s.at.around (shown local_hash inside) hole (new-whole local_hash number s.at.around (shown local_hash inside) hole all.distinct) up (omega (arith, deep-plug s.at.around inside, few)) all.holds in
+    cc
+
+pub counts-there : (node at : Option ℕ) (limit : ℕ) (o now : Option (RecordMap NodeRecord)) (answer : Option ℕ) → node ≡ at → now ≡ o → CountsLevels at limit now answer → CountsLevels node limit o answer
+counts-there node at limit o now answer is same counts = subst (λ q. CountsLevels q limit o answer) (sym is) (subst (λ q. CountsLevels at limit q answer) same counts)

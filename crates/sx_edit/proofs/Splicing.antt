@@ -18,7 +18,10 @@ use Rattle.sx_model.specs.Holes.{Frame, Shown, plug, shown, around_hole, frame_r
 use Rattle.sx_model.proofs.Holes.{rows-plug}
 use Rattle.sx_edit.specs.declared.fault.EditFault.TheVariants.{Refused}
 use Rattle.sx_edit.specs.declared.trees.Gap.{Gap}
+use Rattle.sx_edit.specs.declared.trees.Rim.{Rim}
 use Rattle.sx_edit.specs.declared.trees.Tree.{Tree}
+use Rattle.sx_edit.specs.Seen.{CannotSurvey, IsRim}
+use Rattle.sx_edit.proofs.Rimming.{around-of, survey-cannot}
 use Rattle.sx_edit.specs.Told.{Shows}
 use Rattle.sx_edit.specs.Mend.{IsLeftOut, IsMended, IsTakenOut, opened, shown_tree}
 use Rattle.sx_edit.specs.Edited.{rows_in}
@@ -136,16 +139,47 @@ left-gap number frames frame before n below behind k next parent r gap tree o mi
     }
 
 -- a tree was taken out, and what stands around the gap was mended
-pub spliced-out : (number : List Step → ℕ) (frames : List Frame) (before : Forest) (n : Node) (below behind : Forest) (k next parent : ℕ) (r : NodeRecord) (gap : Gap) (tree : Tree) (o mid after : Option (RecordMap NodeRecord))
+pub spliced-out : (number : List Step → ℕ) (frames : List Frame) (before : Forest) (n : Node) (below behind : Forest) (k next parent : ℕ) (r : NodeRecord) (gap : Gap) (rim : Rim) (tree : Tree) (o mid after : Option (RecordMap NodeRecord))
     → n.number ≡ k → row_of r ≡ record (own_row local_hash number frames before n below behind) { path = r.path } → size (plug frames (beside before (tree_then n below behind))) ≤ next
-    → IsCut k next parent r gap tree → IsTakenOut k r.first next o mid → IsMended next gap (Some tree) None mid after
+    → IsCut k next parent r gap tree → IsRim o gap rim → IsTakenOut k r.first next o mid → IsMended next gap rim (Some tree) None mid after
     → Shows o (rows_in number (plug frames (beside before (tree_then n below behind)))) → Shows after (rows_in number (plug frames (beside before behind)))
 unfolding IsMended
-spliced-out number [] before n below behind k next parent r gap tree o mid after same row few cut taken mended shows =
+spliced-out number [] before n below behind k next parent r gap rim tree o mid after same row few cut is_rim taken mended shows =
     absurd (let none : r.parent ≡ None = ap (λ (w : NodeRow). w.parent) row in let up = cut.up in cc)
-spliced-out number (frame ∷ frames) before n below behind k next parent r gap tree o mid after same row few cut taken mended shows =
+spliced-out number (frame ∷ frames) before n below behind k next parent r gap rim tree o mid after same row few cut is_rim taken mended shows =
     let there = left-gap number frames frame before n below behind k next parent r gap tree o mid same row few cut taken shows in
-    mended local_hash number frames frame before (tree_then n below no_trees) no_trees behind there.parent there.left there.right there.shown_is refl few (omega (arith, cut.fits)) there.shows
+    let around = around-of local_hash number frames frame before (tree_then n below no_trees) behind gap o there.parent there.left there.right shows rim is_rim in
+    mended local_hash number frames frame before (tree_then n below no_trees) no_trees behind there.parent there.left there.right there.shown_is refl few (omega (arith, cut.fits)) around there.shows
+
+-- the gap is that of a node with the record
+pub record IsGapOf (parent : ℕ) (r : NodeRecord) (gap : Gap) : Type 0 where
+  pub up : r.parent ≡ Some parent
+  pub gap_parent : gap.parent ≡ parent
+  pub gap_left : gap.left ≡ r.left
+  pub gap_right : gap.right ≡ r.right
+
+-- what stands around the gap can be read
+gap-there : (number : List Step → ℕ) (frames : List Frame) (before : Forest) (n : Node) (below behind : Forest) (next parent : ℕ) (r : NodeRecord) (gap : Gap) (o : Option (RecordMap NodeRecord))
+    → row_of r ≡ record (own_row local_hash number frames before n below behind) { path = r.path } → size (plug frames (beside before (tree_then n below behind))) ≤ next → IsGapOf parent r gap
+    → Shows o (rows_in number (plug frames (beside before (tree_then n below behind)))) → CannotSurvey next gap o → ⊥
+gap-there number [] before n below behind next parent r gap o row few gap_of shows cannot = let none : r.parent ≡ None = ap (λ (w : NodeRow). w.parent) row in let up = gap_of.up in cc
+gap-there number (frame ∷ frames) before n below behind next parent r gap o row few gap_of shows cannot =
+    let above_is : r.parent ≡ Some frame.node.number = ap (λ (w : NodeRow). w.parent) row in
+    let up = gap_of.up in
+    let gap_parent = gap_of.gap_parent in
+    let parent_is : frame.node.number ≡ gap.parent = cc in
+    survey-cannot local_hash number frames frame before (tree_then n below no_trees) behind gap o parent_is
+    (sym (gap_of.gap_left ∙ ap (λ (w : NodeRow). w.left) row)) (sym (gap_of.gap_right ∙ ap (λ (w : NodeRow). w.right) row)) shows next few cannot
+
+pub gap-cannot : (k next parent : ℕ) (r : NodeRecord) (gap : Gap) (before now : Option (RecordMap NodeRecord)) → ForSome before (λ m. fin.get m k ≡ Some r) → now ≡ before → IsGapOf parent r gap → CannotSurvey next gap now → IsNoState next before
+unfolding IsNoState
+gap-cannot k next parent r gap before now there same gap_of cannot state are =
+    let s = seen k state next before r are there in
+    let few : size (plug s.at.around (beside s.at.left (tree_then s.at.node s.at.below s.at.right))) ≤ next = subst (λ t. size t ≤ next) s.at.stands are.few in
+    gap-there (number_of state.paths) s.at.around s.at.left s.at.node s.at.below s.at.right next parent r gap before (seen-row k state before r s (number_of state.paths)) few gap_of s.shows (subst (CannotSurvey next gap) same cannot)
+
+pub rim-there : (o now : Option (RecordMap NodeRecord)) (gap : Gap) (rim : Rim) → now ≡ o → IsRim now gap rim → IsRim o gap rim
+rim-there o now gap rim same = subst (λ q. IsRim q gap rim) same
 
 -- ---- the paths of a tree that goes
 
@@ -216,12 +250,12 @@ module _ (k next : ℕ) (r : NodeRecord) where
       let s = seen k state next before.told r are there in
       remove-stays before.told state s (must_stay-below (number_of state.paths) s.at.around s.at.left s.at.node s.at.below s.at.right r p parent before.told (seen-row k state before.told r s (number_of state.paths)) s.shows up there_p ∙ key)
 
-  pub remove-done : (before now mid after : Option (RecordMap NodeRecord)) (table new_table : List PathRow) (p : NodeRecord) (parent : ℕ) (gap : Gap) (tree : Tree) → ForSome before (λ m. fin.get m k ≡ Some r) → r.parent ≡ Some parent
+  pub remove-done : (before now mid after : Option (RecordMap NodeRecord)) (table new_table : List PathRow) (p : NodeRecord) (parent : ℕ) (gap : Gap) (rim : Rim) (tree : Tree) → ForSome before (λ m. fin.get m k ≡ Some r) → r.parent ≡ Some parent
       → ForSome before (λ m. fin.get m parent ≡ Some p) → is_key p.kind ≡ false → now ≡ before
-      → IsCut k next parent r gap tree → IsTakenOut k r.first next now mid → IsLeftOut k r next (kept now table) (Some new_table) → IsMended next gap (Some tree) None mid after
+      → IsCut k next parent r gap tree → IsRim before gap rim → IsTakenOut k r.first next now mid → IsLeftOut k r next (kept now table) (Some new_table) → IsMended next gap rim (Some tree) None mid after
       → AnswersEach (remove k) next (kept before table) (kept after new_table) (Ok (record { first = None; next = next }))
   unfolding AnswersEach
-  remove-done before now mid after table new_table p parent gap tree there up there_p key same cut taken left_out mended state are of_state =
+  remove-done before now mid after table new_table p parent gap rim tree there up there_p key same cut is_rim taken left_out mended state are of_state =
       let s = seen k state next before r are there in
       let frames : List Frame = s.at.around in
       let number : List Step → ℕ = number_of state.paths in
@@ -238,7 +272,7 @@ module _ (k next : ℕ) (r : NodeRecord) where
       let room = paths-room state 0 new_state.trees xs [] ys paths_are site.before site.behind of_state.lists.few in
       let few : size (plug frames (beside s.at.left (tree_then s.at.node s.at.below s.at.right))) ≤ next = subst (λ t. size t ≤ next) s.at.stands are.few in
       let taken_before : IsTakenOut k r.first next before mid = rw same at taken in
-      let shows = spliced-out number frames s.at.left s.at.node s.at.below s.at.right k next parent r gap tree before mid after s.at.number (seen-row k state before r s (number_of state.paths)) few cut taken_before mended s.shows in
+      let shows = spliced-out number frames s.at.left s.at.node s.at.below s.at.right k next parent r gap rim tree before mid after s.at.number (seen-row k state before r s (number_of state.paths)) few cut is_rim taken_before mended s.shows in
       let number_is : next ≡ state.next + 0 = omega (arith, are.next_is) in (
         new_state,
         is_apply ∙ room,
@@ -248,14 +282,14 @@ module _ (k next : ℕ) (r : NodeRecord) where
       )
 
   -- a damage on the way
-  pub remove-cannot : (before now mid : Option (RecordMap NodeRecord)) (parent : ℕ) (gap : Gap) (tree : Tree) → ForSome before (λ m. fin.get m k ≡ Some r) → now ≡ before
-      → IsCut k next parent r gap tree → IsTakenOut k r.first next now mid → IsMended next gap (Some tree) None mid None → IsNoState next before
+  pub remove-cannot : (before now mid : Option (RecordMap NodeRecord)) (parent : ℕ) (gap : Gap) (rim : Rim) (tree : Tree) → ForSome before (λ m. fin.get m k ≡ Some r) → now ≡ before
+      → IsCut k next parent r gap tree → IsRim before gap rim → IsTakenOut k r.first next now mid → IsMended next gap rim (Some tree) None mid None → IsNoState next before
   unfolding IsNoState
-  remove-cannot before now mid parent gap tree there same cut taken mended state are =
+  remove-cannot before now mid parent gap rim tree there same cut is_rim taken mended state are =
       let s = seen k state next before r are there in
       let few : size (plug s.at.around (beside s.at.left (tree_then s.at.node s.at.below s.at.right))) ≤ next = subst (λ t. size t ≤ next) s.at.stands are.few in
       let taken_before : IsTakenOut k r.first next before mid = rw same at taken in
-      (spliced-out (number_of state.paths) s.at.around s.at.left s.at.node s.at.below s.at.right k next parent r gap tree before mid None s.at.number (seen-row k state before r s (number_of state.paths)) few cut taken_before mended s.shows).holds
+      (spliced-out (number_of state.paths) s.at.around s.at.left s.at.node s.at.below s.at.right k next parent r gap rim tree before mid None s.at.number (seen-row k state before r s (number_of state.paths)) few cut is_rim taken_before mended s.shows).holds
 
   pub cut-cannot : (before now : Option (RecordMap NodeRecord)) (table : List PathRow) → ForSome before (λ m. fin.get m k ≡ Some r) → now ≡ before → IsLeftOut k r next (kept now table) None → IsNoKept next (kept before table)
   unfolding IsNoKept

@@ -8,6 +8,8 @@ use Rattle.sx_tree.specs.declared.record.Step.{Step}
 use Rattle.sx_tree.specs.declared.record.Step.TheVariants.{Item, Name}
 use Rattle.sx_tree.specs.declared.record.Kind.TheVariants.{Key}
 use Rattle.sx_tree.specs.Value.{Value, Values, Fields, array, object, value_of, values_of, fields_of, nodes, nodes_of_values, nodes_of_fields, field_then, no_fields}
+use Rattle.sx_tree.specs.declared.record.NodeRecord.{NodeRecord}
+use Rattle.sx_view.specs.Records.{RecordMap}
 use Rattle.sx_view.specs.declared.fault.Fault.{Fault}
 use Rattle.sx_view.specs.declared.fault.Fault.TheVariants as faults
 use Rattle.sx_model.specs.Numbered.{numbered, numbered_values, numbered_fields}
@@ -58,16 +60,16 @@ unfolding StopsGrowing
 memory-stops_growing paths path more had table (Ok x) is = absurd is
 memory-stops_growing paths path more had table (Err e) is = λ listed count steps lists at room. subst (Stops had listed (paths steps)) (sym is) tt
 
-pub fault-breach : {A : Type 0} (next : ℕ) (r : Result A EditFault) (fault : Fault) → IsErrAnd r (λ e. e ≡ edit_fault fault) → IsBreachFault next fault → IfErr r (IsBreachEdit next)
-fault-breach next (Ok x) fault is breach = absurd is
-fault-breach next (Err e) faults.Failed is breach = absurd breach
-fault-breach next (Err e) (faults.Damaged d) is breach = subst (IsBreachEdit next) (sym is) breach
-fault-breach next (Err e) faults.OutOfMemory is breach = absurd breach
+pub fault-breach : {A : Type 0} (o : Option (RecordMap NodeRecord)) (next : ℕ) (r : Result A EditFault) (fault : Fault) → IsErrAnd r (λ e. e ≡ edit_fault fault) → IsBreachFault o next fault → IfErr r (IsBreachEdit o next)
+fault-breach o next (Ok x) fault is breach = absurd is
+fault-breach o next (Err e) faults.Failed is breach = absurd breach
+fault-breach o next (Err e) (faults.Damaged d) is breach = subst (IsBreachEdit o next) (sym is) breach
+fault-breach o next (Err e) faults.OutOfMemory is breach = absurd breach
 
-pub breach-edit_explains : {T : Type 0} (next : ℕ) (told : Option T) (rose : Type 0) (e : EditFault) → IsBreachEdit next e → ExplainsEdit next told rose e
+pub breach-edit_explains : (next : ℕ) (told : Option (RecordMap NodeRecord)) (rose : Type 0) (e : EditFault) → IsBreachEdit told next e → ExplainsEdit next told rose e
 breach-edit_explains next told rose (Refused refusal) is = tt
 breach-edit_explains next told rose Failed is = absurd is
-breach-edit_explains next told rose (Damaged d) is = inr is
+breach-edit_explains next told rose (Damaged d) is = inr (inr is)
 breach-edit_explains next told rose OutOfMemory is = tt
 
 -- the value's path is not as it must be

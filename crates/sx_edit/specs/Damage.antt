@@ -1,41 +1,98 @@
--- The rules that records of nodes keep, and what tells of one that is broken.
-use Rattle.std.specs.Prelude.{ℕ, ◌≡◌, ◌+◌, ◌^◌, ◌<◌, ◌⊎◌, Option, None}
+-- The rules that records of nodes and paths keep, and what tells of one that is broken.
+use Rattle.std.specs.Prelude.{ℕ, ◌≡◌, ◌+◌, ◌-◌, ◌^◌, ◌<◌, ◌≤◌, ◌⊎◌, Option, None, Some}
+use Rattle.std.specs.Option.{ForSome}
+use Rattle.std.specs.FinMap as fin
 use Rattle.sx_bytes.specs.Damage.{number_damage}
 use Rattle.sx_bytes.specs.declared.damage.Damage.{Damage}
+use Rattle.sx_tree.specs.Record.{kind_byte}
+use Rattle.sx_tree.specs.declared.record.NodeRecord.{NodeRecord}
+use Rattle.sx_view.specs.Records.{RecordMap}
 use Rattle.sx_view.specs.declared.fault.Fault.{Fault}
 use Rattle.sx_view.specs.declared.fault.Fault.TheVariants.{Failed, Damaged, OutOfMemory}
 use Rattle.sx_edit.specs.declared.damage.TheConstants.{BROKEN_LINK, ENDLESS, MISPLACED}
 
--- a rule that is broken, the value or bound that it asks for, and the value that stands there
-pub record Breach : Type 0 where
-  pub rule : ℕ
-  pub kept : ℕ
-  pub found : ℕ
+-- a link from one node to another that has no record
+abbrev pub broken_link : ℕ → ℕ → Damage
+broken_link from to = number_damage 0 BROKEN_LINK from to
 
--- what tells of it
-abbrev pub damage_of : Breach → Damage
-damage_of breach = number_damage 0 breach.rule breach.kept breach.found
+-- links that lead on after as many nodes as the next new node's number
+abbrev pub endless : ℕ → Damage
+endless next = number_damage 0 ENDLESS next (next + 1)
 
--- The values are such as the rule tells, in an edit before which the next new node would get this number: of a link, the two
--- nodes; of links that lead on after as many nodes as that number, the number and one more; of a count that left its type, or a
--- kind that cannot stand where it does, the node and the count or the kind. That the link, the count or the kind stands in the
--- records is not said.
-abbrev pub IsOfRule : ℕ → Breach → Type 0
-IsOfRule next breach =
-    ((breach.rule ≡ BROKEN_LINK) × (breach.kept < 2 ^ 32) × (breach.found < 2 ^ 32))
-    ⊎ (((breach.rule ≡ ENDLESS) × (breach.kept ≡ next) × (breach.found ≡ next + 1))
-    ⊎ ((breach.rule ≡ MISPLACED) × (breach.kept < 2 ^ 32) × (breach.found < 2 ^ 33)))
+-- a node, and the byte of its kind, the number of a path, or a count, which cannot stand there
+abbrev pub misplaced : ℕ → ℕ → Damage
+misplaced node value = number_damage 0 MISPLACED node value
 
--- what is told is one of the rules, with values of its own
-unfoldable pub IsBreach : ℕ → Damage → Type 0
-IsBreach next damage = (breach : Breach) × (damage ≡ damage_of breach) × IsOfRule next breach
+-- ---- what is told
 
--- Damage is told where the records are not, by the object below, or else by a rule with values of its own.
-abbrev pub IsDamage : {T : Type 0} → ℕ → Option T → Damage → Type 0
-IsDamage next told damage = (told ≡ None) ⊎ IsBreach next damage
+-- where records are told, this is the node's
+abbrev pub IsRecord : Option (RecordMap NodeRecord) → ℕ → NodeRecord → Type 0
+IsRecord o k r = ForSome o (λ m. fin.get m k ≡ Some r)
+
+-- where records are told, the node has none
+abbrev pub IsAbsent : Option (RecordMap NodeRecord) → ℕ → Type 0
+IsAbsent o k = ForSome o (λ m. fin.get m k ≡ None)
+
+-- a link of this record leads to the node
+abbrev pub HasLink : NodeRecord → ℕ → Type 0
+HasLink r to = (r.parent ≡ Some to) ⊎ ((r.left ≡ Some to) ⊎ ((r.right ≡ Some to) ⊎ ((r.first ≡ Some to) ⊎ (r.last ≡ Some to))))
+
+-- the records tell of the first node a link that leads to the second
+abbrev pub LeadsTo : Option (RecordMap NodeRecord) → ℕ → ℕ → Type 0
+LeadsTo o from to = (r : NodeRecord) × (IsRecord o from r × HasLink r to)
+
+-- the second node is that to which a link of the first leads, or has a record
+abbrev pub IsReached : Option (RecordMap NodeRecord) → ℕ → ℕ → Type 0
+IsReached o from to = LeadsTo o from to ⊎ ((r : NodeRecord) × IsRecord o to r)
+
+-- ---- rules that are broken
+
+-- a link leads to a node that has no record
+abbrev pub HasBrokenLink : Option (RecordMap NodeRecord) → Damage → Type 0
+HasBrokenLink o damage = (from : ℕ) × ((to : ℕ) × (LeadsTo o from to × IsAbsent o to × (damage ≡ broken_link from to)))
+
+-- a node that is not the document has no parent
+abbrev pub HasTop : Option (RecordMap NodeRecord) → Damage → Type 0
+HasTop o damage = (k : ℕ) × ((r : NodeRecord) × (IsRecord o k r × (r.parent ≡ None) × (damage ≡ misplaced k (kind_byte r.kind))))
+
+-- the count is below what is taken from it, or has no place in its type after that
+abbrev pub IsSpent : ℕ → ℕ → Type 0
+IsSpent count minus = (count < minus) ⊎ (2 ^ 32 ≤ count - minus)
+
+-- so many nodes go: none, or a node that is told with all below it
+abbrev pub HasTreeOf : Option (RecordMap NodeRecord) → ℕ → Type 0
+HasTreeOf o nodes = (nodes ≡ 0) ⊎ ((k : ℕ) × ((r : NodeRecord) × (IsRecord o k r × (nodes ≡ r.descendants + 1))))
+
+-- the count of the nodes below a node cannot take in what comes, no more nodes than there can be, and leave out what goes
+abbrev pub HasSpentNodes : Option (RecordMap NodeRecord) → Damage → Type 0
+HasSpentNodes o damage =
+    (k : ℕ) × ((r : NodeRecord) × ((plus : ℕ) × ((minus : ℕ) × (IsRecord o k r × (plus ≤ 2 ^ 30) × HasTreeOf o minus
+    × IsSpent (r.descendants + plus) minus × (damage ≡ misplaced k (r.descendants + plus))))))
+
+-- the count of a node's children cannot take in one that comes and leave out one that goes
+abbrev pub HasSpentChildren : Option (RecordMap NodeRecord) → Damage → Type 0
+HasSpentChildren o damage =
+    (k : ℕ) × ((r : NodeRecord) × ((plus : ℕ) × ((minus : ℕ) × (IsRecord o k r × (plus ≤ 1) × (minus ≤ 1)
+    × IsSpent (r.children + plus) minus × (damage ≡ misplaced k (r.children + plus))))))
+
+-- what is told of nodes breaks one of the rules
+abbrev pub IsBroken : Option (RecordMap NodeRecord) → ℕ → Damage → Type 0
+IsBroken o next damage = HasBrokenLink o damage ⊎ ((damage ≡ endless next) ⊎ (HasTop o damage ⊎ (HasSpentNodes o damage ⊎ HasSpentChildren o damage)))
+
+-- a node that needs a path: it has a record, or is new
+abbrev pub NeedsPath : Option (RecordMap NodeRecord) → ℕ → ℕ → Type 0
+NeedsPath o next node = ((r : NodeRecord) × IsRecord o node r) ⊎ (next ≤ node)
+
+-- A path that a node needs, or a count of its values, is not as it must be. Of the path's number or the count only the range is said.
+unfoldable pub IsBreach : Option (RecordMap NodeRecord) → ℕ → Damage → Type 0
+IsBreach o next damage = (node : ℕ) × (NeedsPath o next node × ((value : ℕ) × ((damage ≡ misplaced node value) × (value < 2 ^ 33))))
+
+-- Damage is told where the records are not, by the object below, or else of a rule that is broken.
+abbrev pub IsDamage : ℕ → Option (RecordMap NodeRecord) → Damage → Type 0
+IsDamage next told damage = (told ≡ None) ⊎ (IsBroken told next damage ⊎ IsBreach told next damage)
 
 -- Failed comes only where the faults of the object below rose.
-abbrev pub Explains : {T : Type 0} → ℕ → Option T → Type 0 → Fault → Type 0
+abbrev pub Explains : ℕ → Option (RecordMap NodeRecord) → Type 0 → Fault → Type 0
 Explains next told rose Failed = rose
 Explains next told rose (Damaged damage) = IsDamage next told damage
 Explains next told rose OutOfMemory = Unit {0}
@@ -45,7 +102,19 @@ IsDamaged Failed = ⊥
 IsDamaged (Damaged damage) = Unit {0}
 IsDamaged OutOfMemory = ⊥
 
-abbrev pub IsBreachFault : ℕ → Fault → Type 0
-IsBreachFault next Failed = ⊥
-IsBreachFault next (Damaged damage) = IsBreach next damage
-IsBreachFault next OutOfMemory = ⊥
+-- the fault is damage of a rule on nodes
+abbrev pub IsBrokenFault : Option (RecordMap NodeRecord) → ℕ → Fault → Type 0
+IsBrokenFault told next Failed = ⊥
+IsBrokenFault told next (Damaged damage) = IsBroken told next damage
+IsBrokenFault told next OutOfMemory = ⊥
+
+-- the same, or want of memory
+abbrev pub IsBrokenAtMost : Option (RecordMap NodeRecord) → ℕ → Fault → Type 0
+IsBrokenAtMost told next Failed = ⊥
+IsBrokenAtMost told next (Damaged damage) = IsBroken told next damage
+IsBrokenAtMost told next OutOfMemory = Unit {0}
+
+abbrev pub IsBreachFault : Option (RecordMap NodeRecord) → ℕ → Fault → Type 0
+IsBreachFault o next Failed = ⊥
+IsBreachFault o next (Damaged damage) = IsBreach o next damage
+IsBreachFault o next OutOfMemory = ⊥

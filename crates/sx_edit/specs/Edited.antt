@@ -1,15 +1,15 @@
 -- What another label of a node leaves of records.
-use Rattle.std.specs.Prelude.{◌≡◌, ℕ, ◌+◌, ◌≤◌, List, ◌∷◌, ◌++◌, length, Option}
+use Rattle.std.specs.Prelude.{◌≡◌, ℕ, List, ◌∷◌, ◌++◌, Option}
 use Rattle.sx_tree.specs.declared.record.Kind.{Kind}
 use Rattle.sx_tree.specs.declared.record.Step.{Step}
 use Rattle.sx_tree.specs.declared.record.NodeRecord.{NodeRecord}
 use Rattle.sx_view.specs.Records.{RecordMap}
 use Rattle.sx_model.specs.Hash.{local_hash}
-use Rattle.sx_model.specs.Tree.{Node, Forest, tree_then, beside, size}
+use Rattle.sx_model.specs.Tree.{Node, Forest, tree_then, beside}
 use Rattle.sx_model.specs.Records.{NodeRow, at_top, rows}
 use Rattle.sx_model.specs.Holes.{Frame, Shown, plug, shown}
-use Rattle.sx_edit.specs.Holes.{before_own, behind_own, own_row}
-use Rattle.sx_edit.specs.Told.{Moment, Shows}
+use Rattle.sx_edit.specs.Holes.{before_own, behind_own, own_row, rows_above}
+use Rattle.sx_edit.specs.Told.{Shows}
 
 -- the rows of a document, by the numbers of its paths
 abbrev pub rows_in : (List Step → ℕ) → Forest → List (ℕ × NodeRow)
@@ -38,16 +38,10 @@ rows_with number at path inner =
     ++ (at.node.number, record (own_row local_hash number at.frames at.before at.node at.below at.behind) { path = path })
     ∷ (inner ++ behind_own local_hash number at.frames a at.node.number at.behind)
 
--- The records showed trees with the node, and they now show them where it has this kind and label, and the number of this path,
--- whatever rows are below it. Each node above it was got once.
-unfoldable pub IsRelabeled : ℕ → Kind → List ℕ → ℕ → Moment → Moment → Type 0
-IsRelabeled k kind label path old new =
+-- The records showed trees with the node, and these rows above it, and they now show them where it has this kind and label, and the
+-- number of this path, whatever rows are below it.
+unfoldable pub IsRelabeled : ℕ → Kind → List ℕ → ℕ → List (ℕ × NodeRow) → Option (RecordMap NodeRecord) → Option (RecordMap NodeRecord) → Type 0
+IsRelabeled k kind label path above before after =
     (number : List Step → ℕ) (at : Standing) (was : ℕ) (inner : List (ℕ × NodeRow)) → at.node.number ≡ k
-    → Shows old.told (rows_with number at was inner)
-    → Shows new.told (rows_with number (labeled at kind label) path inner) × (new.gets ≤ old.gets + length at.frames)
-
--- the records show no trees with the node, which have at most so many nodes
-unfoldable pub CannotRelabel : ℕ → ℕ → Option (RecordMap NodeRecord) → Type 0
-CannotRelabel k limit o =
-    (number : List Step → ℕ) (at : Standing) (was : ℕ) (inner : List (ℕ × NodeRow)) → at.node.number ≡ k
-    → size (trees_around at) ≤ limit → Shows o (rows_with number at was inner) → ⊥
+    → rows_above local_hash number at.frames (shown local_hash (beside at.before (tree_then at.node at.below at.behind))) ≡ above
+    → Shows before (rows_with number at was inner) → Shows after (rows_with number (labeled at kind label) path inner)

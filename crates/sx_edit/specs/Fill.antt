@@ -3,6 +3,8 @@ use Rattle.std.specs.Prelude.{◌≡◌, ℕ, ◌+◌, ◌<◌, ◌≤◌, ◌^�
 use Rattle.sx_tree.specs.declared.record.Step.{Step}
 use Rattle.sx_tree.specs.declared.record.Kind.TheVariants.{Key}
 use Rattle.sx_tree.specs.Value.{Value, nodes}
+use Rattle.sx_tree.specs.declared.record.NodeRecord.{NodeRecord}
+use Rattle.sx_view.specs.Records.{RecordMap}
 use Rattle.sx_model.specs.Hash.{local_hash}
 use Rattle.sx_model.specs.Edit.{entering}
 use Rattle.sx_model.specs.Holes.{Frame, around_hole, plug, shown}
@@ -16,7 +18,8 @@ use Rattle.sx_edit.specs.declared.trees.Tree.{Tree}
 use Rattle.sx_edit.specs.declared.fault.EditFault.{EditFault}
 use Rattle.sx_edit.specs.Edited.{rows_in}
 use Rattle.sx_edit.specs.Grow.{child_rows, top_of, trees_below, value_paths}
-use Rattle.sx_edit.specs.Mend.{opened, shown_tree}
+use Rattle.sx_edit.specs.Mend.{IsAround, opened, shown_tree}
+use Rattle.sx_edit.specs.declared.trees.Rim.{Rim}
 use Rattle.sx_edit.specs.Pathways.{IsPathAt, Kept, Lists, Numbers, Stops, more_on}
 use Rattle.sx_edit.specs.Told.{Shows, numbers_of}
 
@@ -73,26 +76,31 @@ pub record IsGap (next : ℕ) (gap : Gap) (old : Option Tree) (at : Opening) : T
 abbrev pub left_open : (List Step → ℕ) → Opening → List (ℕ × NodeRow)
 left_open number at = opened local_hash number at.frames at.frame at.left at.olds no_trees at.right
 
+-- the gap is open, and this was read around it
+pub record IsOpen (number : List Step → ℕ) (rim : Rim) (at : Opening) (o : Option (RecordMap NodeRecord)) : Type 0 where
+  pub around : IsAround local_hash number at.frames at.frame at.left at.olds at.right rim
+  pub shows : Shows o (left_open number at)
+
 -- what enters stands on the path of this number, and its value too
 abbrev pub StandsOn : Opening → Option (List ℕ) → Value → ℕ → List Step → Type 0
 StandsOn at name value next steps = path_of (Some at.frame.node) (around_hole (at.frame ∷ at.frames)).path (entering_top name value next).label ≡ steps
 
 -- The gap, where the old trees' rows are gone, has the trees of what enters, and all around it is as it must be. The paths of what
 -- entered were counted, and listed where they were not. Where nothing is told afterwards, there were no such trees.
-unfoldable pub IsFilled : ℕ → Gap → Option Tree → Entering → Kept → Kept → Type 0
-IsFilled next gap old new before after =
+unfoldable pub IsFilled : ℕ → Gap → Rim → Option Tree → Entering → Kept → Kept → Type 0
+IsFilled next gap rim old new before after =
     (at : Opening) (listed : List (List Step)) (count : List Step → ℕ) (steps : List Step) → IsGap next gap old at
     → Lists before.table listed count → IsPathAt listed steps new.path → StandsOn at new.name new.value next steps
     → Lists after.table (with_paths listed (entering_paths new.name new.value next steps)) (more_on (entering_paths new.name new.value next steps) count)
     × ((number : List Step → ℕ) → Numbers number (with_paths listed (entering_paths new.name new.value next steps))
-    → AreBelow next (numbers_of (left_open number at)) → Shows before.told (left_open number at)
+    → AreBelow next (numbers_of (left_open number at)) → IsOpen number rim at before.told
     → Shows after.told (rows_in number (plug (at.frame ∷ at.frames) (beside at.left (beside (entering new.name new.value next no_trees) at.right)))))
 
 -- Where the counts have room for what enters, this stops for want of room for paths, by a failure or for want of memory alone.
-unfoldable pub StopsFilling : ℕ → Gap → Option Tree → Entering → Kept → EditFault → Type 0
-StopsFilling next gap old new before fault =
+unfoldable pub StopsFilling : ℕ → Gap → Rim → Option Tree → Entering → Kept → EditFault → Type 0
+StopsFilling next gap rim old new before fault =
     (at : Opening) (listed : List (List Step)) (count : List Step → ℕ) (steps : List Step) → IsGap next gap old at
     → Lists before.table listed count → IsPathAt listed steps new.path → StandsOn at new.name new.value next steps
     → ((other : List Step) → count other + nodes new.value < 2 ^ 32)
-    → ((number : List Step → ℕ) → Numbers number listed → AreBelow next (numbers_of (left_open number at)) × Shows before.told (left_open number at))
+    → ((number : List Step → ℕ) → Numbers number listed → AreBelow next (numbers_of (left_open number at)) × IsOpen number rim at before.told)
     → Stops new.had listed (entering_paths new.name new.value next steps) fault

@@ -4,8 +4,9 @@ use Rattle.std.specs.List.{list_any}
 use Rattle.std.specs.Ordering.{nat_cmp, eq_by_cmp}
 use Rattle.sx_tree.specs.declared.record.Kind.{Kind}
 use Rattle.sx_tree.specs.declared.record.Step.{Step}
-use Rattle.sx_model.specs.Tree.{Node, Forest, numbers}
-use Rattle.sx_model.specs.Records.{NodeRow, first_of, last_of, rows}
+use Rattle.std.specs.Option.{option_or}
+use Rattle.sx_model.specs.Tree.{Node, Forest, no_trees, tree_then, numbers}
+use Rattle.sx_model.specs.Records.{Around, NodeRow, first_of, last_of, row, rows}
 use Rattle.sx_model.specs.Holes.{Frame, Shown, around_hole, row_over, shown, shown_by, frame_row, rows_before, rows_behind}
 
 -- the numbers in preorder, up to the hole
@@ -50,6 +51,11 @@ module _ (local : Kind → List ℕ → ℕ) (number : List Step → ℕ) where
   abbrev pub whole : List Frame → Shown → List (ℕ × NodeRow) → List (ℕ × NodeRow)
   whole frames inside hole = rows_before local number frames inside ++ (hole ++ rows_behind local number frames inside)
 
+  -- the rows of the nodes above the hole, the nearest first, where the trees in it show this
+  abbrev pub rows_above : List Frame → Shown → List (ℕ × NodeRow)
+  rows_above [] inside = []
+  rows_above (frame ∷ frames) inside = (frame.node.number, frame_row local number frames frame inside) ∷ rows_above frames (shown_by local frame inside)
+
   -- the rows of the frame's trees with these in the hole, whose trees show this
   abbrev pub frame_rows : List Frame → Frame → Shown → List (ℕ × NodeRow) → List (ℕ × NodeRow)
   frame_rows frames frame inside hole =
@@ -69,3 +75,13 @@ module _ (local : Kind → List ℕ → ℕ) (number : List Step → ℕ) where
   -- the rows behind those of the trees below it
   abbrev pub behind_own : List Frame → Shown → ℕ → Forest → List (ℕ × NodeRow)
   behind_own frames a k behind = rows local number (record (around_hole frames) { left = Some k }) behind ++ rows_behind local number frames a
+
+  -- the entry of the first of trees side by side, and of the last one
+  abbrev pub first_entry : Around → Forest → Option (ℕ × NodeRow)
+  first_entry around no_trees = None
+  first_entry around (tree_then n below rest) = Some (n.number, row local number (record around { right = option_or (first_of rest) around.right }) n below)
+
+  abbrev pub last_entry : Around → Forest → Option (ℕ × NodeRow)
+  last_entry around no_trees = None
+  last_entry around (tree_then n below no_trees) = Some (n.number, row local number (record around { right = option_or None around.right }) n below)
+  last_entry around (tree_then n below (tree_then m inner rest)) = last_entry (record around { left = Some n.number }) (tree_then m inner rest)

@@ -4,6 +4,7 @@ pub mod Damage
 pub mod EditFault
 pub mod Edited
 pub mod Fill
+pub mod Gets
 pub mod Grow
 pub mod Holes
 pub mod Mend
@@ -12,5 +13,6 @@ pub mod Pathways
 pub mod Places
 pub mod Repath
 pub mod Room
+pub mod Seen
 pub mod Told
 pub mod Steps

@@ -1,15 +1,18 @@
 -- What a tree that takes the place of another does to what stands around it.
-use Rattle.std.specs.Prelude.{◌≡◌, true, ℕ, ◌+◌, ◌-◌, ◌^◌, ◌<◌, ◌≤◌, List, ◌∷◌, ◌++◌, Option, None, Some}
+use Rattle.std.specs.Prelude.{◌≡◌, true, ℕ, ◌+◌, ◌-◌, ◌^◌, ◌<◌, ◌≤◌, List, [], ◌∷◌, ◌++◌, Option, None, Some, option_map}
 use Rattle.std.specs.Option.{option_or}
 use Rattle.sx_tree.specs.declared.record.Kind.{Kind}
 use Rattle.sx_tree.specs.declared.record.Step.{Step}
 use Rattle.sx_tree.specs.declared.record.NodeRecord.{NodeRecord}
 use Rattle.sx_view.specs.Records.{RecordMap}
-use Rattle.sx_model.specs.Tree.{Forest, beside, is_value, size}
+use Rattle.sx_model.specs.Tree.{Forest, beside, is_value, numbers, size}
 use Rattle.sx_model.specs.Records.{NodeRow, PathRow, Around, at_top, around_children, first_of, last_of, rows}
 use Rattle.sx_model.specs.Holes.{Frame, Shown, plug, shown, around_hole, rows_before, rows_behind}
 use Rattle.sx_edit.specs.Pathways.{HasAll, IsPathAt, Kept, Lists, ListsSome, Numbers, more_on, own_of, paths_under}
+use Rattle.sx_edit.specs.Holes.{first_entry, last_entry, rows_above}
+use Rattle.sx_edit.specs.Seen.{entry_of, upward}
 use Rattle.sx_edit.specs.Told.{Piece, Shows}
+use Rattle.sx_edit.specs.declared.trees.Rim.{Rim}
 use Rattle.sx_edit.specs.declared.trees.Gap.{Gap}
 use Rattle.sx_edit.specs.declared.trees.Tree.{Tree}
 
@@ -52,14 +55,6 @@ adopted gap old new w = record w {
   children = w.children + trees_of_tree new - trees_of_tree old;
 }
 
--- The row of the node is another now, where its children can be so many more and so many fewer, and all else is as it
--- was. Where
--- nothing is told afterwards, there was no such row.
-unfoldable pub IsAdopted : ℕ → ℕ → ℕ → (NodeRow → NodeRow) → Option (RecordMap NodeRecord) → Option (RecordMap NodeRecord) → Type 0
-IsAdopted k plus minus change before after =
-    (xs ys : List (ℕ × NodeRow)) (w : NodeRow) → w.children + plus < 2 ^ 32 → minus ≤ w.children + plus
-    → Shows before (xs ++ (k, w) ∷ ys) → Shows after (xs ++ (k, change w) ∷ ys)
-
 module _ (local : Kind → List ℕ → ℕ) (number : List Step → ℕ) where
   -- the rows of all trees, with the new ones' rows in the gap already, while all else is as it was with the old ones
   abbrev pub opened : List Frame → Frame → Forest → Forest → Forest → Forest → List (ℕ × NodeRow)
@@ -72,17 +67,32 @@ module _ (local : Kind → List ℕ → ℕ) (number : List Step → ℕ) where
       ++ rows local number (record around { left = option_or (last_of old) (last_of before) }) behind))
       ++ rows_behind local number (frame ∷ frames) was)
 
--- Where the new tree's rows stood in the gap already, the rows are those of the trees with the new tree in the old
--- one's place, for
--- all trees of at most so many nodes. Where nothing is told afterwards, there were no such trees.
-unfoldable pub IsMended : ℕ → Gap → Option Tree → Option Tree → Option (RecordMap NodeRecord) → Option (RecordMap NodeRecord) → Type 0
-IsMended next gap old new o after =
+-- what was read around the gap is what stands there, with the old trees in it
+pub record IsAround (local : Kind → List ℕ → ℕ) (number : List Step → ℕ) (frames : List Frame) (frame : Frame) (before olds behind : Forest) (rim : Rim) : Type 0 where
+  pub left : option_map entry_of rim.left
+      ≡ last_entry local number (record (around_children (around_hole frames) frame.node) { right = option_or (first_of olds) (first_of behind) }) before
+  pub right : option_map entry_of rim.right
+      ≡ first_entry local number (record (around_children (around_hole frames) frame.node) { left = option_or (last_of olds) (last_of before) }) behind
+  pub above : rows_above local number (frame ∷ frames) (shown local (beside before (beside olds behind))) ≡ entry_of rim.parent ∷ upward rim.above.items
+
+-- Where the new tree's rows stood in the gap already, the rows are those of the trees with the new tree in the old one's place, for
+-- all trees of at most so many nodes, around which this was read. Where nothing is told afterwards, there were no such trees.
+unfoldable pub IsMended : ℕ → Gap → Rim → Option Tree → Option Tree → Option (RecordMap NodeRecord) → Option (RecordMap NodeRecord) → Type 0
+IsMended next gap rim old new o after =
     (local : Kind → List ℕ → ℕ) (number : List Step → ℕ) (frames : List Frame) (frame : Frame) (before olds news behind : Forest)
     → frame.node.number ≡ gap.parent → last_of before ≡ gap.left → first_of behind ≡ gap.right
     → shown local olds ≡ shown_tree old → shown local news ≡ shown_tree new
     → size (plug (frame ∷ frames) (beside before (beside olds behind))) ≤ next → next + nodes_of_tree new < 2 ^ 31
+    → IsAround local number frames frame before olds behind rim
     → Shows o (opened local number frames frame before olds news behind)
     → Shows after (rows local number at_top (plug (frame ∷ frames) (beside before (beside news behind))))
+
+-- These are the numbers of the trees below the node, which begin with this one, and its own.
+unfoldable pub IsUprooted : ℕ → Option ℕ → ℕ → Option (RecordMap NodeRecord) → List ℕ → Type 0
+IsUprooted k first limit o gone =
+    (local : Kind → List ℕ → ℕ) (number : List Step → ℕ) (around : Around) (below : Forest) (w : NodeRow) (xs ys : List (ℕ × NodeRow))
+    → first_of below ≡ first → around.right ≡ None → size below ≤ limit
+    → Shows o (xs ++ (k, w) ∷ (rows local number around below ++ ys)) → gone ≡ numbers below ++ k ∷ []
 
 -- The rows of the node and of the trees below it, which begin with this one, are gone, and all else is as it was. Where
 -- nothing is

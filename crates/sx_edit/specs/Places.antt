@@ -1,5 +1,5 @@
 -- Where a new value comes, by the records.
-use Rattle.std.specs.Prelude.{◌≡◌, ℕ, Bool, true, false, List, ◌∷◌, Option, None, Some, Result, Err, option_and_then, option_map, find, ◌&&◌, bytes_eq, not, ◌||◌, if◌then◌else◌}
+use Rattle.std.specs.Prelude.{◌≡◌, ◌+◌, length, ℕ, Bool, true, false, List, ◌∷◌, Option, None, Some, Result, Err, option_and_then, option_map, find, ◌&&◌, bytes_eq, not, ◌||◌, if◌then◌else◌}
 use Rattle.std.specs.Option.{option_or}
 use Rattle.sx_tree.specs.declared.edit.Place.{Place}
 use Rattle.sx_tree.specs.declared.edit.Place.TheVariants.{First, Last, Before, After}
@@ -14,7 +14,8 @@ use Rattle.sx_model.specs.Holes.{Frame, around_hole, plug}
 use Rattle.sx_model.specs.Paths.{number_of}
 use Rattle.sx_model.specs.Records.{PathRow, first_of, last_of}
 use Rattle.sx_model.specs.State.{State}
-use Rattle.sx_model.specs.Tree.{Forest, beside, is_document, is_key, is_scalar, tops}
+use Rattle.sx_model.specs.Tree.{Forest, beside, is_document, is_key, is_scalar, spot, tops}
+use Rattle.sx_edit.specs.Gets.{at_spot, gets_at_place, keys_among, node_of_place}
 use Rattle.sx_edit.specs.declared.fault.EditFault.{EditFault}
 use Rattle.sx_edit.specs.declared.trees.Target.{Target}
 use Rattle.sx_edit.specs.Answers.{AreOf, AnswersEach}
@@ -57,6 +58,7 @@ pub record IsPlaceAt (place : Place) (state : State) (target : Target) : Type 0 
   pub children : target.first ≡ first_of (beside left right)
   pub path : target.path ≡ number_of state.paths (around_hole (frame ∷ frames)).path
   pub takes : has_places frame.node.kind ≡ true
+  pub gets : at_spot (gets_at_place place) (spot (node_of_place place) state.trees) ≡ 4 + (keys_among frame.node.kind (beside left right) + length (frame ∷ frames))
   pub applied : (name : Option (List ℕ)) (value : Value) → apply (insert place name value) state
       ≡ insert_below place name value state (record { parent = frame.node; children = beside left right; above = nodes_of frames })
   pub made : (enter : Forest → Forest) → inserted place enter state.trees ≡ plug (frame ∷ frames) (beside left (enter right))

@@ -9,6 +9,7 @@ use Rattle.sx_model.specs.Records.{Around, NodeRow, PathRow, first_of, rows}
 use Rattle.sx_model.specs.Tree.{Forest, FitBelow, is_value, size}
 use Rattle.sx_edit.specs.declared.fault.EditFault.{EditFault}
 use Rattle.sx_edit.specs.declared.trees.Move.{Move}
+use Rattle.sx_edit.specs.Damage.{LeadsTo}
 use Rattle.sx_edit.specs.Pathways.{IsPathAt, Kept, Lists, Numbers, Stops, more_on, own_of, paths_under}
 use Rattle.sx_edit.specs.Told.{Shows}
 
@@ -32,6 +33,11 @@ first_goals kind path first = with_goal kind path first []
 -- the children to which the links lead, that of the last link first
 abbrev pub goals_of : List Move → List Goal
 goals_of moves = map (λ m. goal_of m.over.kind m.over.path m.to) (reverse moves)
+
+-- each of the links is told
+abbrev pub AllLead : Option (RecordMap NodeRecord) → List Move → Type 0
+AllLead o [] = Unit {0}
+AllLead o (move ∷ moves) = LeadsTo o move.from move.to × AllLead o moves
 
 -- trees side by side, what stands around them, and the new path of the node above
 pub record Branch : Type 0 where
@@ -96,15 +102,14 @@ pub record ShowsBranches (o : Option (RecordMap NodeRecord)) (goals : List Goal)
   pub shows : Shows o (front ++ (old_rows local number branches ++ back))
   pub numbers_are : Agree number listed (old_paths branches)
 
--- The trees that begin with these children stand on their new paths, where they have so many nodes at most, and all else is as it was.
--- Their values are counted there, and the paths are listed where they were not. Where nothing is told afterwards, there were no such trees.
-unfoldable pub IsRepathed : List Goal → ℕ → Kept → Kept → Type 0
-IsRepathed goals limit before after =
+-- These are the rows of the trees that begin with these children on their new paths, where they have so many nodes at most. Their values
+-- are counted there, and the paths are listed where they were not.
+unfoldable pub IsRepathed : List Goal → ℕ → Kept → List PathRow → List (ℕ × NodeRow) → Type 0
+IsRepathed goals limit before table moved =
     (listed : List (List Step)) (count : List Step → ℕ) (branches : List Branch) (shown : ShowsBranches before.told goals limit listed branches)
     → Lists before.table listed (more_on (old_paths branches) count)
-    → Lists after.table (with_paths listed (new_paths branches)) (more_on (new_paths branches) count)
-    × ((number : List Step → ℕ) → Numbers number (with_paths listed (new_paths branches))
-    → Shows after.told (shown.front ++ (new_rows shown.local number branches ++ shown.back)))
+    → Lists table (with_paths listed (new_paths branches)) (more_on (new_paths branches) count)
+    × ((number : List Step → ℕ) → Numbers number (with_paths listed (new_paths branches)) → moved ≡ new_rows shown.local number branches)
 
 -- Where the counts have room for them, this stops for want of room for paths, by a failure or for want of memory alone.
 unfoldable pub StopsRepathing : List Goal → ℕ → ℕ → Kept → EditFault → Type 0

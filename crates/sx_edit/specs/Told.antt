@@ -1,5 +1,5 @@
 -- Records that show rows, and what one change of them does.
-use Rattle.std.specs.Prelude.{◌≡◌, ℕ, ◌+◌, ◌^◌, ◌<◌, ◌≤◌, false, length, List, [], ◌∷◌, ◌++◌, map, Option, None, Some, option_map}
+use Rattle.std.specs.Prelude.{◌≡◌, ℕ, ◌+◌, ◌^◌, ◌<◌, ◌≤◌, false, List, [], ◌∷◌, ◌++◌, map, Option, None, Some, option_map}
 use Rattle.std.specs.List.{list_any}
 use Rattle.std.specs.Ordering.{nat_cmp, eq_by_cmp}
 use Rattle.std.specs.FinMap as fin
@@ -13,7 +13,7 @@ use Rattle.sx_model.specs.Tree.{Forest, size}
 use Rattle.sx_model.specs.Records.{NodeRow, PathRow, Around, first_of, rows}
 use Rattle.sx_model.specs.Holes.{Frame, Shown}
 use Rattle.sx_edit.specs.Pathways.{HasAll, Kept, Lists, ListsSome, Numbers, more_on, paths_under}
-use Rattle.sx_edit.specs.Holes.{AreNew, above, IsShift, IsAlike, top_shown, whole}
+use Rattle.sx_edit.specs.Holes.{AreNew, IsShift, IsAlike, rows_above, top_shown, whole}
 
 -- the records are told, and show these rows and no others
 abbrev pub Holds : Option (RecordMap NodeRecord) → List (ℕ × NodeRow) → Type 0
@@ -32,11 +32,11 @@ pub record Shows (o : Option (RecordMap NodeRecord)) (entries : List (ℕ × Nod
   pub holds : Holds o entries
   pub distinct : AreDistinct (numbers_of entries)
 
--- The row of the node is another now, and all else is as it was. Where nothing is told afterwards, there was no such row.
-unfoldable pub IsChanged : Option ℕ → (NodeRow → NodeRow) → Option (RecordMap NodeRecord) → Option (RecordMap NodeRecord) → Type 0
+-- The row that stood at the node is another now, and all else is as it was. Where nothing is told afterwards, it stood nowhere.
+unfoldable pub IsChanged : Option (ℕ × NodeRow) → (NodeRow → NodeRow) → Option (RecordMap NodeRecord) → Option (RecordMap NodeRecord) → Type 0
 IsChanged None change before after = (entries : List (ℕ × NodeRow)) → Shows before entries → Shows after entries
-IsChanged (Some k) change before after =
-    (xs ys : List (ℕ × NodeRow)) (w : NodeRow) → Shows before (xs ++ (k, w) ∷ ys) → Shows after (xs ++ (k, change w) ∷ ys)
+IsChanged (Some e) change before after =
+    (xs ys : List (ℕ × NodeRow)) → Shows before (xs ++ e ∷ ys) → Shows after (xs ++ (e.0, change e.1) ∷ ys)
 
 -- ---- trees that go
 
@@ -59,13 +59,12 @@ abbrev pub piece_rows : (Kind → List ℕ → ℕ) → (List Step → ℕ) → 
 piece_rows local number [] = []
 piece_rows local number (piece ∷ pieces) = rows local number piece.0 piece.1 ++ piece_rows local number pieces
 
--- The trees that begin with these numbers are gone, where they have so many nodes at most, and all else is as it was. Where
--- nothing is told afterwards, there were no such trees.
-unfoldable pub IsCleared : List ℕ → ℕ → Option (RecordMap NodeRecord) → Option (RecordMap NodeRecord) → Type 0
-IsCleared tops limit before after =
+-- These are the numbers of all trees that begin with these, one after the other, where they have so many nodes at most.
+unfoldable pub IsWalked : List ℕ → ℕ → Option (RecordMap NodeRecord) → List ℕ → Type 0
+IsWalked tops limit o walked =
     (local : Kind → List ℕ → ℕ) (number : List Step → ℕ) (pieces : List Piece) (xs ys : List (ℕ × NodeRow))
     → BeginWith pieces tops → sizes pieces ≤ limit
-    → Shows before (xs ++ (piece_rows local number pieces ++ ys)) → Shows after (xs ++ ys)
+    → Shows o (xs ++ (piece_rows local number pieces ++ ys)) → walked ≡ numbers_of (piece_rows local number pieces)
 
 -- the paths of the value nodes of pieces
 abbrev pub piece_paths : List Piece → List (List Step)
@@ -91,31 +90,18 @@ IsDiscounted tops limit before after =
     (listed : List (List Step)) (count : List Step → ℕ) (pieces : List Piece) → ShowsPieces before.told tops limit listed pieces
     → Lists before.table listed (more_on (piece_paths pieces) count) → ListsSome after listed count
 
--- ---- the walk along the ancestors
+-- ---- the nodes above
 
--- what records tell, and how many gets were made of them
-pub record Moment : Type 0 where
-  pub told : Option (RecordMap NodeRecord)
-  pub gets : ℕ
+-- Where these are the rows above the hole, for the old trees in it, the records now hold the rows for the new ones, of which so many
+-- nodes are more and so many fewer, and whose hashes are d more. Whatever rows stood above the hole before, all others are as they were.
+unfoldable pub IsLifted : List (ℕ × NodeRow) → ℕ → ℕ → ℕ → Option (RecordMap NodeRecord) → Option (RecordMap NodeRecord) → Type 0
+IsLifted seen plus minus d before after =
+    (local : Kind → List ℕ → ℕ) (number : List Step → ℕ) (frames : List Frame) (was old new : Shown) (hole : List (ℕ × NodeRow))
+    → AreNew frames → rows_above local number frames old ≡ seen → IsShift plus minus d old new → IsAlike old new
+    → Holds before (whole local number frames was hole) → Holds after (whole local number frames new hole)
 
--- what an object tells now, and how many gets were made of it
-abbrev pub moment_of : {V : Type 0} → (V → Option (RecordMap NodeRecord)) → (V → ℕ) → V → Moment
-moment_of told gets nodes = record { told = told nodes; gets = gets nodes }
-
--- Where the records held the rows of trees with the old ones in a hole below the node, they now hold those with the new ones,
--- for all trees of which so many nodes are more and so many fewer, and whose hashes are d more. Each node above the hole was
--- got once.
-unfoldable pub IsLifted : Option ℕ → ℕ → ℕ → ℕ → Moment → Moment → Type 0
-IsLifted node plus minus d before after =
-    (local : Kind → List ℕ → ℕ) (number : List Step → ℕ) (frames : List Frame) (old new : Shown) (hole : List (ℕ × NodeRow))
-    → AreNew frames → above frames ≡ node → IsShift plus minus d old new → IsAlike old new
-    → Holds before.told (whole local number frames old hole)
-    → Holds after.told (whole local number frames new hole) × (after.gets ≤ before.gets + length frames)
-
--- The records hold the rows of no trees with a hole below the node that leave room for so many nodes more, and in which
--- the hole is that deep at most.
-unfoldable pub CannotLift : Option ℕ → ℕ → ℕ → ℕ → Option (RecordMap NodeRecord) → Type 0
-CannotLift node plus minus levels before =
-    (local : Kind → List ℕ → ℕ) (number : List Step → ℕ) (frames : List Frame) (old : Shown) (hole : List (ℕ × NodeRow))
-    → AreNew frames → above frames ≡ node → length frames ≤ levels → (top_shown local frames old).nodes + plus < 2 ^ 32 → minus ≤ old.nodes + plus
-    → Holds before (whole local number frames old hole) → ⊥
+-- These are the rows above no hole in trees that leave room for so many nodes more and have so many to give.
+unfoldable pub CannotLift : List (ℕ × NodeRow) → ℕ → ℕ → Type 0
+CannotLift seen plus minus =
+    (local : Kind → List ℕ → ℕ) (number : List Step → ℕ) (frames : List Frame) (old : Shown) → rows_above local number frames old ≡ seen
+    → (top_shown local frames old).nodes + plus < 2 ^ 32 → minus ≤ old.nodes + plus → ⊥

@@ -1,6 +1,9 @@
 //! What is told of records that are those of no document.
-ghost use Rattle.std.specs.Prelude.{◌≡◌, ◌^◌, ◌<◌, ℕ};
-ghost use Rattle.sx_edit.specs.Damage.{IsBreach};
+ghost use Rattle.std.specs.Prelude.{◌≡◌, ◌^◌, ◌<◌, ℕ, Option};
+ghost use Rattle.sx_tree.specs.Record as records;
+ghost use Rattle.sx_tree.specs.declared.record.NodeRecord.{NodeRecord as TheRecord};
+ghost use Rattle.sx_view.specs.Records.{RecordMap};
+ghost use Rattle.sx_edit.specs.Damage as words;
 
 use crate::kinds::kind_byte;
 use sx_bytes::{Damage, number_damage};
@@ -17,29 +20,38 @@ pub const MISPLACED: u8 = 26;
 
 /// The node links to a node that has no record.
 pub(crate) fn broken_link(from: u32, to: u32) -> Damage
-    ensures { (next : ℕ) → IsBreach next result }
+    ensures { result ≡ words.broken_link from to }
 {
     number_damage(0, BROKEN_LINK, u64::from(from), u64::from(to))
 }
 
 /// After as many nodes as the next new node's number, links lead on.
 pub(crate) fn endless(next: u32) -> Damage
-    ensures { IsBreach next result }
+    ensures { result ≡ words.endless next }
 {
     number_damage(0, ENDLESS, u64::from(next), u64::from(next) + 1)
 }
 
 /// The node has this value where none can stand.
 pub(crate) fn misplaced(node: u32, value: u64) -> Damage
-    requires { value < 2 ^ 33 }
-    ensures { (next : ℕ) → IsBreach next result }
+    ensures { result ≡ words.misplaced node value }
 {
     number_damage(0, MISPLACED, u64::from(node), value)
 }
 
+/// The node needs a path of this number, or its values take a count out of its type.
+pub(crate) fn misplaced_path(node: u32, value: u64) -> Damage
+    requires { value < 2 ^ 33 }
+    ensures is { result ≡ words.misplaced node value }
+    ensures breach { (o : Option (RecordMap TheRecord)) (next : ℕ) → words.NeedsPath o next node
+        → words.IsBreach o next result }
+{
+    misplaced(node, value)
+}
+
 /// A node of this kind stands where none can.
 pub(crate) fn misplaced_kind(node: u32, kind: Kind) -> Damage
-    ensures { (next : ℕ) → IsBreach next result }
+    ensures { result ≡ words.misplaced node (records.kind_byte kind) }
 {
     misplaced(node, u64::from(kind_byte(kind)))
 }

@@ -6,13 +6,13 @@ ghost use Rattle.sx_tree.specs.declared.json.Scalar.{Scalar};
 ghost use Rattle.sx_model.specs.Edit.{edit_of};
 ghost use Rattle.sx_edit.specs.Answers.{AnswersEach, GetsFew};
 ghost use Rattle.sx_edit.specs.EditFault.{ExplainsEdit};
+ghost use Rattle.sx_edit.specs.Gets.{GetsAtMost};
 ghost use Rattle.sx_edit.specs.Pathways.{kept};
 ghost use Rattle.sx_edit.specs.Steps.{GoesOn};
 
 use crate::fault::EditFault;
 use crate::insertion::insert;
 use crate::loading::load;
-use crate::paths::path_count;
 use crate::removal::remove;
 use crate::renaming::rename;
 use crate::replacement::replace;
@@ -70,6 +70,8 @@ fn change<N: RecordsMut<NodeRecord>>(
         (kept (N.told nodes.new) paths.new.paths) result }
     ensures gets { (node : ℕ) → (value : Scalar) → edit.now ≡ edits.SetScalar node value
         → OnOk result (GetsFew node next (N.told nodes.old) (N.gets nodes.old) (N.gets nodes.new)) }
+    ensures work { OnOk result (GetsAtMost (edit_of edit.now) next (N.told nodes.old)
+        (N.gets nodes.old) (N.gets nodes.new)) }
     ensures same_mark { paths.new.marked ≡ paths.old.marked }
     ensures goes_on { GoesOn N.told N.faults N.has_mark N.marks nodes.old nodes.new }
     ensures fault { IfErr result (ExplainsEdit next (N.told nodes.old)
@@ -121,6 +123,9 @@ pub fn apply<N: RecordsMut<NodeRecord>>(
     // A scalar that is set is got once, and each node above it.
     ensures gets { (node : ℕ) → (value : Scalar) → edit.now ≡ edits.SetScalar node value
         → OnOk result (GetsFew node next (N.told nodes.old) (N.gets nodes.old) (N.gets nodes.new)) }
+    // Of all nodes only those around the edit are got: above it, beside it, and those that go or move.
+    ensures work { OnOk result (GetsAtMost (edit_of edit.now) next (N.told nodes.old)
+        (N.gets nodes.old) (N.gets nodes.new)) }
     ensures unchanged { OnErr result (N.same nodes.old nodes.new) }
     ensures unchanged_paths { OnErr result (paths.new.paths ≡ paths.old.paths) }
     ensures no_mark { IsFalse (N.has_mark nodes.new) }
@@ -128,7 +133,7 @@ pub fn apply<N: RecordsMut<NodeRecord>>(
     ensures fault { IfErr result (ExplainsEdit next (N.told nodes.old)
         (Rose (N.faults nodes.old) (N.faults nodes.new))) }
 {
-    let had = path_count(paths);
+    let had = paths.len();
     nodes.begin();
     paths.begin();
     let outcome = change(alloc, nodes, paths, had, edit, next);

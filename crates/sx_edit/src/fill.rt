@@ -1,21 +1,25 @@
 //! Values that come into a gap among siblings.
-ghost use Rattle.std.specs.Prelude.{◌≡◌, ◌+◌, ◌<◌, ◌≤◌, ◌^◌, ℕ, IfErr, IfOk, OnOk};
+ghost use Rattle.std.specs.Prelude.{◌≡◌, ◌+◌, ◌<◌, ◌≤◌, ◌^◌, ℕ, IfErr, IfOk, OnOk, Option};
 ghost use Rattle.std.specs.Option.{option_copied};
-ghost use Rattle.sx_outside.specs.Faults.{Rose};
+ghost use Rattle.sx_tree.specs.declared.record.NodeRecord.{NodeRecord as TheRecord};
+ghost use Rattle.sx_view.specs.Records.{RecordMap};
 ghost use Rattle.sx_tree.specs.Value as plain;
 ghost use Rattle.sx_tree.specs.Value.{value_of};
 ghost use Rattle.sx_view.specs.Rows.{row_of};
-ghost use Rattle.sx_edit.specs.EditFault.{ExplainsEdit, IsBreachEdit};
+ghost use Rattle.sx_edit.specs.Damage.{HasTreeOf};
+ghost use Rattle.sx_edit.specs.Mend.{nodes_of_tree};
+ghost use Rattle.sx_edit.specs.EditFault.{IsBreachEdit, IsBrokenEdit};
 ghost use Rattle.sx_edit.specs.Fill.{IsFilled, StopsFilling, entering_below, entering_nodes, entering_paths, entering_rows, entering_top, enters};
 ghost use Rattle.sx_edit.specs.Grow.{IsGrown, StopsGrowing, top_row};
 ghost use Rattle.sx_edit.specs.Pathways.{kept};
+ghost use Rattle.sx_edit.specs.Seen.{IsRim};
 ghost use Rattle.sx_edit.specs.Steps.{GoesOn};
 
 use crate::fault::EditFault;
 use crate::grow::{grow, key_over, link};
 use crate::mend::mend;
 use crate::reads::add;
-use crate::trees::{Gap, Tree};
+use crate::trees::{Gap, Rim, Tree};
 use std::alloc::Global;
 use sx_paths::PathTable;
 use sx_tree::json::Json;
@@ -45,7 +49,8 @@ fn enter<N: RecordsMut<NodeRecord>>(
         (kept (N.told nodes.old) paths.old.paths) (kept (N.told nodes.new) paths.new.paths)) }
     ensures stops { IfErr result (StopsGrowing (entering_paths (option_copied name.entry) (value_of value.now) next)
         path (plain.nodes (value_of value.now)) had paths.old.paths) }
-    ensures fault { (next : ℕ) → IfErr result (IsBreachEdit next) }
+    ensures fault { (o : Option (RecordMap TheRecord)) → IfErr result (IsBreachEdit o next) }
+    ensures same_gets { N.gets nodes.new ≡ N.gets nodes.old }
     ensures same_mark { paths.new.marked ≡ paths.old.marked }
     ensures goes_on { GoesOn N.told N.faults N.has_mark N.marks nodes.old nodes.new }
 {
@@ -72,6 +77,7 @@ pub(crate) fn fill<N: RecordsMut<NodeRecord>>(
     had: u32,
     next: u32,
     gap: Gap,
+    rim: Rim,
     old: Option<Tree>,
     name: Option<&Text>,
     value: &Json,
@@ -80,15 +86,17 @@ pub(crate) fn fill<N: RecordsMut<NodeRecord>>(
     requires parent_fits { gap.parent < 2 ^ 30 }
     requires room { next + entering_nodes (option_copied name) (value_of value.now) ≤ 2 ^ 30 }
     requires path_fits { path < 2 ^ 30 }
-    ensures done { OnOk result (IsFilled next gap old (enters (option_copied name.entry) (value_of value.now) path had)
+    ensures done { OnOk result (IsFilled next gap rim old
+        (enters (option_copied name.entry) (value_of value.now) path had)
         (kept (N.told nodes.old) paths.old.paths) (kept (N.told nodes.new) paths.new.paths)) }
-    ensures stops { IfErr result (StopsFilling next gap old
+    ensures stops { IfErr result (StopsFilling next gap rim old
         (enters (option_copied name.entry) (value_of value.now) path had)
         (kept (N.told nodes.old) paths.old.paths)) }
     ensures same_mark { paths.new.marked ≡ paths.old.marked }
     ensures goes_on { GoesOn N.told N.faults N.has_mark N.marks nodes.old nodes.new }
-    ensures fault { IfErr result (ExplainsEdit next (N.told nodes.old)
-        (Rose (N.faults nodes.old) (N.faults nodes.new))) }
+    ensures same_gets { N.gets nodes.new ≡ N.gets nodes.old }
+    ensures fault { (o : Option (RecordMap TheRecord)) → HasTreeOf o (nodes_of_tree old) → IsRim o gap rim
+        → IfErr result (IsBrokenEdit o next) }
 {
     let top = enter(alloc, nodes, paths, had, next, name, value, path)?;
     let tree = Tree {
@@ -102,5 +110,5 @@ pub(crate) fn fill<N: RecordsMut<NodeRecord>>(
         next,
         link(top, gap.parent, gap.left, gap.right),
     )?;
-    Ok(mend(alloc, nodes, next, gap, old, Some(tree))?)
+    Ok(mend(alloc, nodes, gap, rim, old, Some(tree))?)
 }

@@ -1,7 +1,9 @@
 //! Trees of values, written below their top.
-ghost use Rattle.std.specs.Prelude.{◌≡◌, ◌+◌, ◌<◌, ◌≤◌, ◌^◌, ℕ, None, [], ◌∷◌, suc, true, IfErr, IfOk, OnOk};
+ghost use Rattle.std.specs.Prelude.{◌≡◌, ◌+◌, ◌<◌, ◌≤◌, ◌^◌, ℕ, None, [], ◌∷◌, suc, true, IfErr, IfOk, OnOk, Option};
 ghost use Rattle.sx_tree.specs.Record.{IsLink};
 ghost use Rattle.sx_view.specs.Rows.{row_of};
+ghost use Rattle.sx_tree.specs.declared.record.NodeRecord.{NodeRecord as TheRecord};
+ghost use Rattle.sx_view.specs.Records.{RecordMap};
 ghost use Rattle.sx_tree.specs.Value as plain;
 ghost use Rattle.sx_tree.specs.Value.{value_of, values_of, fields_of, nodes_of_values, nodes_of_fields};
 ghost use Rattle.sx_model.specs.Hash.{local_hash};
@@ -82,6 +84,7 @@ fn hang<N: RecordsMut<NodeRecord>>(
       linked parent children.last
           (only_if more (parent + 1 + children.nodes + (child.descendants + 1))) (row_of child),
     ) ∷ []) (N.told nodes.old) (N.told nodes.new)) }
+    ensures same_gets { N.gets nodes.new ≡ N.gets nodes.old }
     ensures goes_on { GoesOn N.told N.faults N.has_mark N.marks nodes.old nodes.new }
 {
     let number = parent + 1 + children.nodes;
@@ -123,8 +126,10 @@ pub(crate) fn grow<N: RecordsMut<NodeRecord>>(
         (kept (N.told nodes.old) paths.old.paths) (kept (N.told nodes.new) paths.new.paths)) }
     ensures stops { IfErr result (StopsGrowing (value_paths (value_of value.now) number) path
         (plain.nodes (value_of value.now)) had paths.old.paths) }
-    ensures fault { (next : ℕ) → IfErr result (IsBreachEdit next) }
+    ensures fault { (o : Option (RecordMap TheRecord)) (next : ℕ) → next ≤ number
+        → IfErr result (IsBreachEdit o next) }
     ensures same_mark { paths.new.marked ≡ paths.old.marked }
+    ensures same_gets { N.gets nodes.new ≡ N.gets nodes.old }
     ensures goes_on { GoesOn N.told N.faults N.has_mark N.marks nodes.old nodes.new }
 {
     count_in(paths, number, path)?;
@@ -170,8 +175,10 @@ fn grow_items<N: RecordsMut<NodeRecord>>(
     ensures stops { IfErr result (StopsGrowing
         (paths_under_node (array_node parent) (numbered_values (values_of values.now) (suc parent)))
         path (nodes_of_values (values_of values.now)) had paths.old.paths) }
-    ensures fault { (next : ℕ) → IfErr result (IsBreachEdit next) }
+    ensures fault { (o : Option (RecordMap TheRecord)) (next : ℕ) → next ≤ parent
+        → IfErr result (IsBreachEdit o next) }
     ensures same_mark { paths.new.marked ≡ paths.old.marked }
+    ensures same_gets { N.gets nodes.new ≡ N.gets nodes.old }
     ensures goes_on { GoesOn N.told N.faults N.has_mark N.marks nodes.old nodes.new }
 {
     let mut children = no_children();
@@ -208,8 +215,10 @@ fn grow_members<N: RecordsMut<NodeRecord>>(
     ensures stops { IfErr result (StopsGrowing
         (paths_under_node (object_node parent) (numbered_fields (fields_of members.now) (suc parent)))
         path (nodes_of_fields (fields_of members.now)) had paths.old.paths) }
-    ensures fault { (next : ℕ) → IfErr result (IsBreachEdit next) }
+    ensures fault { (o : Option (RecordMap TheRecord)) (next : ℕ) → next ≤ parent
+        → IfErr result (IsBreachEdit o next) }
     ensures same_mark { paths.new.marked ≡ paths.old.marked }
+    ensures same_gets { N.gets nodes.new ≡ N.gets nodes.old }
     ensures goes_on { GoesOn N.told N.faults N.has_mark N.marks nodes.old nodes.new }
 {
     let names = members.names();
@@ -241,6 +250,7 @@ pub(crate) fn key_over<N: RecordsMut<NodeRecord>>(
     ensures key { IfOk result (IsKeyOver number name.now (row_of value)) }
     ensures added { OnOk result (IsAdded ((number + 1, linked number None None (row_of value)) ∷ [])
         (N.told nodes.old) (N.told nodes.new)) }
+    ensures same_gets { N.gets nodes.new ≡ N.gets nodes.old }
     ensures goes_on { GoesOn N.told N.faults N.has_mark N.marks nodes.old nodes.new }
 {
     let path = value.path;

@@ -1,18 +1,22 @@
 //! A value that comes to a place.
-ghost use Rattle.std.specs.Prelude.{◌≡◌, ◌+◌, ◌-◌, ◌<◌, ◌≤◌, ◌^◌, ◌&&◌, ℕ, not, Some, None, is_none, is_some, length, min, if◌then◌else◌, IfErr, IfOk, IfNone};
+ghost use Rattle.std.specs.Prelude.{◌≡◌, ◌+◌, ◌-◌, ◌<◌, ◌≤◌, ◌^◌, ◌&&◌, ℕ, not, Some, None, is_none, is_some, length, min, if◌then◌else◌, IfErr, IfOk, IfNone, IfSome, OnOk, Option};
 ghost use Rattle.std.specs.Option.{option_copied, option_or};
 ghost use Rattle.sx_outside.specs.Faults.{Rose};
 ghost use Rattle.sx_tree.specs.Value.{value_of};
+ghost use Rattle.sx_tree.specs.declared.record.NodeRecord.{NodeRecord as TheRecord};
+ghost use Rattle.sx_view.specs.Records.{RecordMap};
 ghost use Rattle.sx_tree.specs.declared.edit.EditRefusal.TheVariants as refusals;
 ghost use Rattle.sx_model.specs.Edit as model;
 ghost use Rattle.sx_model.specs.Tree as tree;
 ghost use Rattle.sx_edit.specs.Answers.{AnswersEach};
-ghost use Rattle.sx_edit.specs.Damage.{Explains, IsDamaged};
+ghost use Rattle.sx_edit.specs.Damage.{Explains, IsDamaged, LeadsTo, NeedsPath};
 ghost use Rattle.sx_edit.specs.EditFault.{ExplainsEdit, IsBreachEdit};
+ghost use Rattle.sx_edit.specs.Gets.{GetsAtMost, GetsChildren};
 ghost use Rattle.sx_edit.specs.Pathways.{IsOnto, StopsOnto, kept};
 ghost use Rattle.sx_edit.specs.Places.{ChecksChildren, FindsTaken, step_into};
 ghost use Rattle.sx_edit.specs.Steps.{GoesOn};
 
+use crate::climb::survey;
 use crate::fault::EditFault;
 use crate::fill::fill;
 use crate::kinds::{is_document, is_object};
@@ -37,10 +41,12 @@ fn taken_name<N: RecordsMut<NodeRecord>>(
     target: Target,
     name: Option<&Text>,
 ) -> Result<Option<u32>, Fault>
+    requires { IfSome target.first (λ to. LeadsTo (N.told nodes.old) target.gap.parent to) }
     ensures found { IfOk result (λ found. FindsTaken next target (option_copied name.entry) (N.told nodes.old)
         (Some found)) }
     ensures cannot { IfErr result (λ fault. IsDamaged fault
         → FindsTaken next target (option_copied name.entry) (N.told nodes.old) None) }
+    ensures work { OnOk result (GetsChildren next target (N.told nodes.old) (N.gets nodes.old) (N.gets nodes.new)) }
     ensures same { N.told nodes.new ≡ N.told nodes.old }
     ensures goes_on { GoesOn N.told N.faults N.has_mark N.marks nodes.old nodes.new }
     ensures fault { IfErr result (Explains next (N.told nodes.old) (Rose (N.faults nodes.old) (N.faults nodes.new))) }
@@ -77,7 +83,9 @@ fn check_children<N: RecordsMut<NodeRecord>>(
     target: Target,
     name: Option<&Text>,
 ) -> Result<(), EditFault>
+    requires { IfSome target.first (λ to. LeadsTo (N.told nodes.old) target.gap.parent to) }
     ensures checks { ChecksChildren next target (option_copied name.entry) (N.told nodes.old) result }
+    ensures work { OnOk result (GetsChildren next target (N.told nodes.old) (N.gets nodes.old) (N.gets nodes.new)) }
     ensures same { N.told nodes.new ≡ N.told nodes.old }
     ensures goes_on { GoesOn N.told N.faults N.has_mark N.marks nodes.old nodes.new }
     ensures fault { IfErr result (ExplainsEdit next (N.told nodes.old)
@@ -127,7 +135,8 @@ fn path_into(
     ensures stops { IfErr result (StopsOnto target.path
         (step_into target.kind (option_copied name.entry)) had paths.old.paths) }
     ensures same_mark { paths.new.marked ≡ paths.old.marked }
-    ensures fault { (next : ℕ) → IfErr result (IsBreachEdit next) }
+    ensures fault { (o : Option (RecordMap TheRecord)) (next : ℕ) → NeedsPath o next node
+        → IfErr result (IsBreachEdit o next) }
 {
     let step = step_below(alloc, target.kind, name)?;
     step_onto(alloc, paths, had, node, target.path, step)
@@ -162,6 +171,8 @@ pub(crate) fn insert<N: RecordsMut<NodeRecord>>(
     requires had { had ≡ min (length paths.old.paths) (2 ^ 32 - 1) }
     ensures answers { AnswersEach (model.insert place (option_copied name.entry) (value_of value.now)) next
         (kept (N.told nodes.old) paths.old.paths) (kept (N.told nodes.new) paths.new.paths) result }
+    ensures work { OnOk result (GetsAtMost (model.insert place (option_copied name.entry) (value_of value.now)) next
+        (N.told nodes.old) (N.gets nodes.old) (N.gets nodes.new)) }
     ensures same_mark { paths.new.marked ≡ paths.old.marked }
     ensures goes_on { GoesOn N.told N.faults N.has_mark N.marks nodes.old nodes.new }
     ensures fault { IfErr result (ExplainsEdit next (N.told nodes.old)
@@ -170,20 +181,14 @@ pub(crate) fn insert<N: RecordsMut<NodeRecord>>(
     let target = target_of(alloc, nodes, next, place)?;
     check_children(alloc, nodes, next, target, name)?;
     let in_object = is_object(target.kind);
-    let more = make_room(
-        alloc,
-        nodes,
-        next,
-        target.gap.parent,
-        new_keys(in_object),
-        value,
-    )?;
+    let rim = survey(alloc, nodes, next, target.gap)?;
+    let more = make_room(next, rim.levels, new_keys(in_object), value)?;
     if let Some(refusal) = name_refusal(in_object, name) {
         return Err(EditFault::Refused(refusal));
     }
     let path = path_into(alloc, paths, had, next, target, name)?;
     fill(
-        alloc, nodes, paths, had, next, target.gap, None, name, value, path,
+        alloc, nodes, paths, had, next, target.gap, rim, None, name, value, path,
     )?;
     Ok(Edited {
         first: Some(next),

@@ -3,6 +3,7 @@
 
 mod children;
 mod clear;
+mod climb;
 mod damage;
 mod edits;
 mod fault;
@@ -11,7 +12,6 @@ mod grow;
 mod insertion;
 mod kinds;
 mod label;
-mod levels;
 mod lift;
 mod loading;
 mod mend;

@@ -1,12 +1,16 @@
 //! Counts and hashes of the nodes above a change.
-ghost use Rattle.std.specs.Prelude.{◌≡◌, ◌-◌, ◌≤◌, ◌<◌, ◌^◌, IfErr, IfNone, IfSome, OnOk};
-ghost use Rattle.sx_outside.specs.Faults.{Rose};
-ghost use Rattle.sx_edit.specs.Damage.{Explains, IsDamaged};
+ghost use Rattle.std.specs.Prelude.{◌≡◌, ◌-◌, ◌≤◌, ◌<◌, ◌^◌, ◌⊎◌, ℕ, IfErr, IfNone, IfSome, OnOk, Option};
+ghost use Rattle.sx_tree.specs.declared.record.NodeRecord.{NodeRecord as TheRecord};
+ghost use Rattle.sx_view.specs.Records.{RecordMap};
+ghost use Rattle.sx_edit.specs.Damage.{HasTreeOf, IsBrokenAtMost, IsDamaged, IsSpent};
+ghost use Rattle.sx_edit.specs.Seen.{AreCounted, upward};
 ghost use Rattle.sx_edit.specs.Steps.{GoesOn};
-ghost use Rattle.sx_edit.specs.Told.{CannotLift, IsLifted, moment_of};
+ghost use Rattle.sx_edit.specs.Told.{CannotLift, IsLifted};
+ghost use Rattle.sx_view.specs.declared.fault.Fault.TheVariants.{OutOfMemory};
 
-use crate::damage::{endless, misplaced};
-use crate::reads::{read_linked, write};
+use crate::damage::misplaced;
+use crate::reads::write;
+use crate::trees::Seen;
 use std::alloc::Global;
 use sx_tree::record::NodeRecord;
 use sx_view::{Fault, RecordsMut};
@@ -26,6 +30,7 @@ pub(crate) struct Shift {
 pub(crate) fn fitting(count: u64, minus: u32) -> Option<u32>
     ensures some { IfSome result (λ n. (n ≡ count - minus) × (minus ≤ count)) }
     ensures none { IfNone result (minus ≤ count → count < 2 ^ 32 → ⊥) }
+    ensures spent { IfNone result (IsSpent count minus) }
 {
     let less = count.checked_sub(u64::from(minus))?;
     if less > u64::from(u32::MAX) {
@@ -34,43 +39,35 @@ pub(crate) fn fitting(count: u64, minus: u32) -> Option<u32>
     Some(less as u32)
 }
 
-/// Makes the node, and each one above it, keep what the shift of the trees below it asks for: one walk to the top.
+/// Makes the nodes, of which the nearest is the last, keep what the shift of the trees below them asks for.
 pub(crate) fn lift<N: RecordsMut<NodeRecord>>(
     alloc: Global,
     nodes: &mut N,
-    next: u32,
-    from: u32,
-    node: Option<u32>,
+    mut left: Vec<Seen>,
     shift: Shift,
 ) -> Result<(), Fault>
-    ensures done { OnOk result (IsLifted node shift.plus shift.minus shift.hash
-        (moment_of N.told N.gets nodes.old) (moment_of N.told N.gets nodes.new)) }
+    ensures done { OnOk result (IsLifted (upward left.items) shift.plus shift.minus shift.hash
+        (N.told nodes.old) (N.told nodes.new)) }
     ensures cannot { IfErr result (λ fault. IsDamaged fault
-        → CannotLift node shift.plus shift.minus next (N.told nodes.old)) }
+        → CannotLift (upward left.items) shift.plus shift.minus) }
+    ensures level { shift.plus ≡ 0 → shift.minus ≡ 0 → IfErr result (λ fault. fault ≡ OutOfMemory) }
+    ensures same_gets { N.gets nodes.new ≡ N.gets nodes.old }
     ensures goes_on { GoesOn N.told N.faults N.has_mark N.marks nodes.old nodes.new }
-    ensures fault { IfErr result (Explains next (N.told nodes.old) (Rose (N.faults nodes.old) (N.faults nodes.new))) }
+    ensures fault { (o : Option (RecordMap TheRecord)) (next : ℕ) → shift.plus ≤ 2 ^ 30 → HasTreeOf o shift.minus
+        → AreCounted o left.items
+        → IfErr result (IsBrokenAtMost o next) }
 {
-    let mut child = from;
-    let mut at = node;
     let mut share = shift.hash;
-    for _turn in 0..next {
-        let Some(number) = at else {
-            return Ok(());
-        };
-        let mut record = read_linked(alloc, nodes, child, number)?;
+    while let Some(seen) = left.pop() {
+        let mut record = seen.record;
         let count = u64::from(record.descendants) + u64::from(shift.plus);
         let Some(descendants) = fitting(count, shift.minus) else {
-            return Err(Fault::Damaged(misplaced(number, count)));
+            return Err(Fault::Damaged(misplaced(seen.node, count)));
         };
         share = share.wrapping_mul(257);
-        at = record.parent;
         record.descendants = descendants;
         record.hash = record.hash.wrapping_add(share);
-        write(alloc, nodes, number, record)?;
-        child = number;
+        write(alloc, nodes, seen.node, record)?;
     }
-    match at {
-        Some(_) => Err(Fault::Damaged(endless(next))),
-        None => Ok(()),
-    }
+    Ok(())
 }

@@ -1,5 +1,5 @@
 //! A value that becomes the document's child.
-ghost use Rattle.std.specs.Prelude.{◌≡◌, ◌-◌, ◌≤◌, ◌^◌, ℕ, None, IfErr, IfOk, length, min, option_and_then};
+ghost use Rattle.std.specs.Prelude.{◌≡◌, ◌+◌, ◌-◌, ◌≤◌, ◌^◌, ℕ, None, IfErr, IfOk, length, min, option_and_then, OnOk};
 ghost use Rattle.std.specs.Option.{ForSome};
 ghost use Rattle.std.specs.FinMap as map;
 ghost use Rattle.sx_outside.specs.Faults.{Rose};
@@ -8,6 +8,7 @@ ghost use Rattle.sx_model.specs.Edit as model;
 ghost use Rattle.sx_edit.specs.Answers.{AnswersEach};
 ghost use Rattle.sx_edit.specs.Damage.{Explains, IsDamaged};
 ghost use Rattle.sx_edit.specs.EditFault.{ExplainsEdit};
+ghost use Rattle.sx_edit.specs.Gets.{GetsAtMost};
 ghost use Rattle.sx_edit.specs.Pathways.{kept};
 ghost use Rattle.sx_edit.specs.Steps.{GoesOn};
 
@@ -32,6 +33,7 @@ fn document_child<N: RecordsMut<NodeRecord>>(
 ) -> Result<Option<u32>, Fault>
     ensures child { IfOk result (λ child. ForSome (N.told nodes.old)
         (λ records. child ≡ option_and_then (λ r. r.first) (map.get records 0))) }
+    ensures gets { N.gets nodes.new ≤ N.gets nodes.old + 1 }
     ensures same { N.told nodes.new ≡ N.told nodes.old }
     ensures goes_on { GoesOn N.told N.faults N.has_mark N.marks nodes.old nodes.new }
     ensures fault { (next : ℕ) → IfErr result
@@ -58,6 +60,8 @@ pub(crate) fn load<N: RecordsMut<NodeRecord>>(
     requires had { had ≡ min (length paths.old.paths) (2 ^ 32 - 1) }
     ensures answers { AnswersEach (model.load (value_of value.now)) next (kept (N.told nodes.old) paths.old.paths)
         (kept (N.told nodes.new) paths.new.paths) result }
+    ensures work { OnOk result (GetsAtMost (model.load (value_of value.now)) next (N.told nodes.old)
+        (N.gets nodes.old) (N.gets nodes.new)) }
     ensures same_mark { paths.new.marked ≡ paths.old.marked }
     ensures goes_on { GoesOn N.told N.faults N.has_mark N.marks nodes.old nodes.new }
     ensures fault { IfErr result (ExplainsEdit next (N.told nodes.old)

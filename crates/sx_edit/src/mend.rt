@@ -1,18 +1,21 @@
 //! What stands around a gap among siblings, once one tree took the place of another there.
-ghost use Rattle.std.specs.Prelude.{◌≡◌, ◌+◌, ◌-◌, ◌^◌, ◌%◌, ◌<◌, ℕ, None, Some, IfErr, OnOk};
+ghost use Rattle.std.specs.Prelude.{◌≡◌, ◌+◌, ◌-◌, ◌^◌, ◌%◌, ◌<◌, ◌≤◌, ℕ, None, Some, IfErr, IfOk, OnOk, Option, option_map};
 ghost use Rattle.std.specs.Option.{option_or};
-ghost use Rattle.sx_outside.specs.Faults.{Rose};
 ghost use Rattle.sx_tree.specs.Record.{IsLink};
-ghost use Rattle.sx_edit.specs.Damage.{Explains, IsDamaged};
-ghost use Rattle.sx_edit.specs.Mend.{IsAdopted, IsMended, adopted, end, hash_of_tree, nodes_of_tree, number_of_tree, trees_of_tree};
+ghost use Rattle.sx_tree.specs.declared.record.NodeRecord.{NodeRecord as TheRecord};
+ghost use Rattle.sx_view.specs.Records.{RecordMap};
+ghost use Rattle.sx_view.specs.Rows.{row_of};
+ghost use Rattle.sx_edit.specs.Damage.{HasTreeOf, IsBrokenAtMost, IsBrokenFault, IsDamaged, IsRecord};
+ghost use Rattle.sx_edit.specs.Mend.{IsMended, adopted, end, hash_of_tree, nodes_of_tree, number_of_tree, trees_of_tree};
+ghost use Rattle.sx_edit.specs.Seen.{IsRim, entry_of};
 ghost use Rattle.sx_edit.specs.Steps.{GoesOn};
 ghost use Rattle.sx_edit.specs.Told.{IsChanged};
 
 use crate::damage::misplaced;
 use crate::lift::{Shift, fitting, lift};
-use crate::reads::{read_linked, write};
-use crate::trees::{Gap, Tree};
-use std::alloc::Global;
+use crate::reads::write;
+use crate::trees::{Gap, Rim, Seen, Tree, push_seen};
+use std::alloc::{AllocError, Global};
 use sx_tree::record::NodeRecord;
 use sx_view::{Fault, RecordsMut};
 
@@ -20,78 +23,64 @@ use sx_view::{Fault, RecordsMut};
 fn link_right<N: RecordsMut<NodeRecord>>(
     alloc: Global,
     nodes: &mut N,
-    from: u32,
-    node: Option<u32>,
+    node: Option<Seen>,
     right: Option<u32>,
-) -> Result<(), Fault>
+) -> Result<(), AllocError>
     requires { IsLink right }
-    ensures done { OnOk result (IsChanged node (λ w. record w { right = right }) (N.told nodes.old)
-        (N.told nodes.new)) }
-    ensures cannot { IfErr result (λ fault. IsDamaged fault → IsChanged node (λ w. record w { right = right })
-        (N.told nodes.old) None) }
+    ensures done { OnOk result (IsChanged (option_map entry_of node) (λ w. record w { right = right })
+        (N.told nodes.old) (N.told nodes.new)) }
+    ensures same_gets { N.gets nodes.new ≡ N.gets nodes.old }
     ensures goes_on { GoesOn N.told N.faults N.has_mark N.marks nodes.old nodes.new }
-    ensures fault { (next : ℕ) → IfErr result (Explains next (N.told nodes.old) (Rose (N.faults nodes.old)
-        (N.faults nodes.new))) }
 {
-    let Some(number) = node else {
+    let Some(seen) = node else {
         return Ok(());
     };
-    let mut entry = read_linked(alloc, nodes, from, number)?;
+    let mut entry = seen.record;
     entry.right = right;
-    write(alloc, nodes, number, entry)
+    write(alloc, nodes, seen.node, entry)
 }
 
 /// Gives the node, where there is one, another left sibling.
 fn link_left<N: RecordsMut<NodeRecord>>(
     alloc: Global,
     nodes: &mut N,
-    from: u32,
-    node: Option<u32>,
+    node: Option<Seen>,
     left: Option<u32>,
-) -> Result<(), Fault>
+) -> Result<(), AllocError>
     requires { IsLink left }
-    ensures done { OnOk result (IsChanged node (λ w. record w { left = left }) (N.told nodes.old) (N.told nodes.new)) }
-    ensures cannot { IfErr result (λ fault. IsDamaged fault → IsChanged node (λ w. record w { left = left })
-        (N.told nodes.old) None) }
+    ensures done { OnOk result (IsChanged (option_map entry_of node) (λ w. record w { left = left })
+        (N.told nodes.old) (N.told nodes.new)) }
+    ensures same_gets { N.gets nodes.new ≡ N.gets nodes.old }
     ensures goes_on { GoesOn N.told N.faults N.has_mark N.marks nodes.old nodes.new }
-    ensures fault { (next : ℕ) → IfErr result (Explains next (N.told nodes.old) (Rose (N.faults nodes.old)
-        (N.faults nodes.new))) }
 {
-    let Some(number) = node else {
+    let Some(seen) = node else {
         return Ok(());
     };
-    let mut entry = read_linked(alloc, nodes, from, number)?;
+    let mut entry = seen.record;
     entry.left = left;
-    write(alloc, nodes, number, entry)
+    write(alloc, nodes, seen.node, entry)
 }
 
-/// Makes the parent of the gap name its children at the ends, and count them.
-fn adopt<N: RecordsMut<NodeRecord>>(
-    alloc: Global,
-    nodes: &mut N,
-    gap: Gap,
-    old: Option<Tree>,
-    new: Option<Tree>,
-) -> Result<(), Fault>
+/// The parent of the gap, with its children at the ends, and how many they are.
+fn adopt(parent: Seen, gap: Gap, old: Option<Tree>, new: Option<Tree>) -> Result<Seen, Fault>
     requires { IsLink (number_of_tree new) }
-    ensures done { OnOk result (IsAdopted gap.parent (trees_of_tree new) (trees_of_tree old) (adopted gap old new)
-        (N.told nodes.old) (N.told nodes.new)) }
-    ensures cannot { IfErr result (λ fault. IsDamaged fault
-        → IsAdopted gap.parent (trees_of_tree new) (trees_of_tree old) (adopted gap old new)
-        (N.told nodes.old) None) }
-    ensures goes_on { GoesOn N.told N.faults N.has_mark N.marks nodes.old nodes.new }
-    ensures fault { (next : ℕ) → IfErr result (Explains next (N.told nodes.old) (Rose (N.faults nodes.old)
-        (N.faults nodes.new))) }
+    ensures adopted { IfOk result (λ seen. entry_of seen
+        ≡ (parent.node, adopted gap old new (row_of parent.record))) }
+    ensures cannot { IfErr result (λ fault. parent.record.children + trees_of_tree new < 2 ^ 32
+        → trees_of_tree old ≤ parent.record.children + trees_of_tree new → ⊥) }
+    ensures fault { (o : Option (RecordMap TheRecord)) (next : ℕ) → IsRecord o parent.node parent.record
+        → IfErr result (IsBrokenFault o next) }
 {
-    let mut entry = read_linked(alloc, nodes, gap.parent, gap.parent)?;
-    let count = u64::from(entry.children) + u64::from(count_of(new));
+    let node = parent.node;
+    let mut record = parent.record;
+    let count = u64::from(record.children) + u64::from(count_of(new));
     let Some(children) = fitting(count, count_of(old)) else {
-        return Err(Fault::Damaged(misplaced(gap.parent, count)));
+        return Err(Fault::Damaged(misplaced(node, count)));
     };
-    entry.children = children;
-    entry.first = end_of(gap.left, next_to(new, gap.right), entry.first);
-    entry.last = end_of(gap.right, next_to(new, gap.left), entry.last);
-    write(alloc, nodes, gap.parent, entry)
+    record.children = children;
+    record.first = end_of(gap.left, next_to(new, gap.right), record.first);
+    record.last = end_of(gap.right, next_to(new, gap.left), record.last);
+    Ok(Seen { node, record })
 }
 
 /// The child at an end of a list: the other one where none stands on this side of the gap, else the one that was
@@ -143,25 +132,31 @@ fn shift_of(old: Option<Tree>, new: Option<Tree>) -> Shift
     }
 }
 
-/// Puts right what stands around the gap, where the records of the old tree are gone and those of the new one there:
-/// the links of the neighbours, the parent's children, and along the ancestors the number of nodes and the hash.
+/// Puts right what stands around the gap, as it was read, where the records of the old tree are gone and those of the
+/// new one there: the links of the neighbours, the parent's children, and along the ancestors the number of nodes and
+/// the hash.
 pub(crate) fn mend<N: RecordsMut<NodeRecord>>(
     alloc: Global,
     nodes: &mut N,
-    next: u32,
     gap: Gap,
+    rim: Rim,
     old: Option<Tree>,
     new: Option<Tree>,
 ) -> Result<(), Fault>
     requires { IsLink (number_of_tree new) }
-    ensures done { OnOk result (IsMended next gap old new (N.told nodes.old) (N.told nodes.new)) }
-    ensures cannot { IfErr result (λ fault. IsDamaged fault → IsMended next gap old new (N.told nodes.old) None) }
+    ensures done { (next : ℕ) → OnOk result (IsMended next gap rim old new (N.told nodes.old) (N.told nodes.new)) }
+    ensures cannot { (next : ℕ) → IfErr result (λ fault. IsDamaged fault
+        → IsMended next gap rim old new (N.told nodes.old) None) }
+    ensures same_gets { N.gets nodes.new ≡ N.gets nodes.old }
     ensures goes_on { GoesOn N.told N.faults N.has_mark N.marks nodes.old nodes.new }
-    ensures fault { IfErr result (Explains next (N.told nodes.old) (Rose (N.faults nodes.old) (N.faults nodes.new))) }
+    ensures fault { (o : Option (RecordMap TheRecord)) (next : ℕ) → nodes_of_tree new ≤ 2 ^ 30
+        → HasTreeOf o (nodes_of_tree old) → IsRim o gap rim
+        → IfErr result (IsBrokenAtMost o next) }
 {
-    let parent = gap.parent;
-    link_right(alloc, nodes, parent, gap.left, next_to(new, gap.right))?;
-    link_left(alloc, nodes, parent, gap.right, next_to(new, gap.left))?;
-    adopt(alloc, nodes, gap, old, new)?;
-    lift(alloc, nodes, next, parent, Some(parent), shift_of(old, new))
+    let mut above = rim.above;
+    link_right(alloc, nodes, rim.left, next_to(new, gap.right))?;
+    link_left(alloc, nodes, rim.right, next_to(new, gap.left))?;
+    let parent = adopt(rim.parent, gap, old, new)?;
+    push_seen(&mut above, parent)?;
+    lift(alloc, nodes, above, shift_of(old, new))
 }

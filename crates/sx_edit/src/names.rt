@@ -1,7 +1,8 @@
 //! Keys of a name among siblings.
-ghost use Rattle.std.specs.Prelude.{◌≡◌, None, Some, IfErr, IfOk};
+ghost use Rattle.std.specs.Prelude.{◌≡◌, None, Some, IfErr, IfOk, IfSome, OnOk};
 ghost use Rattle.sx_outside.specs.Faults.{Rose};
-ghost use Rattle.sx_edit.specs.Damage.{Explains, IsDamaged};
+ghost use Rattle.sx_edit.specs.Damage.{Explains, IsDamaged, LeadsTo};
+ghost use Rattle.sx_edit.specs.Gets.{GetsKeys};
 ghost use Rattle.sx_edit.specs.Names.{FindsKey, is_sought};
 ghost use Rattle.sx_edit.specs.Steps.{GoesOn};
 
@@ -31,9 +32,11 @@ pub(crate) fn find_key<N: RecordsMut<NodeRecord>>(
     name: &Text,
     except: Option<u32>,
 ) -> Result<Option<u32>, Fault>
+    requires { IfSome first (λ to. LeadsTo (N.told nodes.old) parent to) }
     ensures found { IfOk result (λ found. FindsKey except name.now first next (N.told nodes.old) (Some found)) }
     ensures cannot { IfErr result (λ fault. IsDamaged fault
         → FindsKey except name.now first next (N.told nodes.old) None) }
+    ensures work { OnOk result (GetsKeys first next (N.told nodes.old) (N.gets nodes.old) (N.gets nodes.new)) }
     ensures same { N.told nodes.new ≡ N.told nodes.old }
     ensures goes_on { GoesOn N.told N.faults N.has_mark N.marks nodes.old nodes.new }
     ensures fault { IfErr result (Explains next (N.told nodes.old) (Rose (N.faults nodes.old) (N.faults nodes.new))) }

@@ -1,12 +1,14 @@
 //! The paths on which values stand, in the table of paths.
-ghost use Rattle.std.specs.Prelude.{◌≡◌, ◌+◌, ◌<◌, ◌≤◌, ◌-◌, ◌^◌, ℕ, true, false, None, Some, IfErr, IfOk, OnOk, length, min};
+ghost use Rattle.std.specs.Prelude.{◌≡◌, ◌+◌, ◌<◌, ◌≤◌, ◌-◌, ◌^◌, ℕ, true, false, None, Some, IfErr, IfOk, OnOk, length, min, Option};
 ghost use Rattle.sx_paths.specs.Table.{row_at};
+ghost use Rattle.sx_tree.specs.declared.record.NodeRecord.{NodeRecord as TheRecord};
+ghost use Rattle.sx_view.specs.Records.{RecordMap};
 ghost use Rattle.sx_tree.specs.declared.record.Step.TheVariants.{Name};
-ghost use Rattle.sx_edit.specs.Damage.{IsBreachFault};
+ghost use Rattle.sx_edit.specs.Damage.{IsBreachFault, NeedsPath};
 ghost use Rattle.sx_edit.specs.EditFault.{IsBreachEdit};
 ghost use Rattle.sx_edit.specs.Pathways.{CannotCountIn, IsCountedIn, IsCountedOut, IsNodeOut, IsOnto, StopsOnto};
 
-use crate::damage::misplaced;
+use crate::damage::misplaced_path;
 use crate::fault::EditFault;
 use crate::kinds::is_value;
 use std::alloc::{AllocError, Global};
@@ -19,29 +21,12 @@ use sx_view::Fault;
 /// The greatest number of a path.
 const LAST: u32 = 1_073_741_823;
 
-/// How many paths there are, at most 4,294,967,295.
-pub(crate) fn path_count(paths: &PathTable) -> u32
-    ensures { result ≡ min (length paths.now.paths) (2 ^ 32 - 1) }
-{
-    let mut least = 0;
-    let mut most = u32::MAX;
-    while least < most {
-        let middle = most - (most - least) / 2;
-        if paths.record(middle).is_some() {
-            least = middle;
-        } else {
-            most = middle - 1;
-        }
-    }
-    least
-}
-
 /// Whether one path more may come.
 fn has_room(paths: &PathTable) -> bool
     ensures room { result ≡ true → length paths.now.paths + 1 ≤ 1_073_741_823 }
     ensures full { result ≡ false → 1_073_741_823 ≤ length paths.now.paths }
 {
-    paths.record(LAST).is_none()
+    paths.len() < LAST
 }
 
 /// Whether other paths may go on from the path: it is the document's, or there.
@@ -66,7 +51,7 @@ pub(crate) fn name_step(alloc: Global, name: &Text) -> Result<Step, AllocError>
 /// # Errors
 ///
 /// `Refused(PathsSpent)` where it is not there and there is no room; `Damaged` where its number is above
-/// 1,073,741,823, or the parent's path is not there.
+/// 1,073,741,823 or not above its parent's, or the parent's path is not there.
 pub(crate) fn step_onto(
     alloc: Global,
     paths: &mut PathTable,
@@ -80,16 +65,20 @@ pub(crate) fn step_onto(
     ensures fits { IfOk result (λ number. number < 2 ^ 30) }
     ensures stops { IfErr result (StopsOnto parent step had paths.old.paths) }
     ensures same_mark { paths.new.marked ≡ paths.old.marked }
-    ensures fault { (next : ℕ) → IfErr result (IsBreachEdit next) }
+    ensures fault { (o : Option (RecordMap TheRecord)) (next : ℕ) → NeedsPath o next node
+        → IfErr result (IsBreachEdit o next) }
 {
     if let Some(number) = paths.find(parent, &step) {
+        if number <= parent {
+            return Err(EditFault::Damaged(misplaced_path(node, u64::from(number))));
+        }
         if number > LAST {
-            return Err(EditFault::Damaged(misplaced(node, u64::from(number))));
+            return Err(EditFault::Damaged(misplaced_path(node, u64::from(number))));
         }
         return Ok(number);
     }
     if !is_base(paths, parent) {
-        return Err(EditFault::Damaged(misplaced(node, u64::from(parent))));
+        return Err(EditFault::Damaged(misplaced_path(node, u64::from(parent))));
     }
     if !has_room(paths) {
         return Err(EditFault::Refused(EditRefusal::PathsSpent { paths: had }));
@@ -106,14 +95,15 @@ pub(crate) fn count_in(paths: &mut PathTable, node: u32, path: u32) -> Result<()
     ensures done { OnOk result (IsCountedIn path paths.old.paths paths.new.paths) }
     ensures cannot { IfErr result (λ fault. CannotCountIn path paths.old.paths) }
     ensures same_mark { paths.new.marked ≡ paths.old.marked }
-    ensures fault { (next : ℕ) → IfErr result (IsBreachFault next) }
+    ensures fault { (o : Option (RecordMap TheRecord)) (next : ℕ) → NeedsPath o next node
+        → IfErr result (IsBreachFault o next) }
 {
     let Some(entry) = paths.record(path) else {
-        return Err(Fault::Damaged(misplaced(node, u64::from(path))));
+        return Err(Fault::Damaged(misplaced_path(node, u64::from(path))));
     };
     let count = entry.count;
     if count == u32::MAX {
-        return Err(Fault::Damaged(misplaced(node, u64::from(count) + 1)));
+        return Err(Fault::Damaged(misplaced_path(node, u64::from(count) + 1)));
     }
     paths.count_in(path, 1);
     Ok(())
@@ -128,13 +118,14 @@ pub(crate) fn count_out(paths: &mut PathTable, node: u32, path: u32) -> Result<(
     ensures done { OnOk result (IsCountedOut path paths.old.paths (Some paths.new.paths)) }
     ensures cannot { IfErr result (λ fault. IsCountedOut path paths.old.paths None) }
     ensures same_mark { paths.new.marked ≡ paths.old.marked }
-    ensures fault { (next : ℕ) → IfErr result (IsBreachFault next) }
+    ensures fault { (o : Option (RecordMap TheRecord)) (next : ℕ) → NeedsPath o next node
+        → IfErr result (IsBreachFault o next) }
 {
     let Some(entry) = paths.record(path) else {
-        return Err(Fault::Damaged(misplaced(node, u64::from(path))));
+        return Err(Fault::Damaged(misplaced_path(node, u64::from(path))));
     };
     if entry.count == 0 {
-        return Err(Fault::Damaged(misplaced(node, 0)));
+        return Err(Fault::Damaged(misplaced_path(node, 0)));
     }
     paths.count_out(path, 1);
     Ok(())
@@ -149,7 +140,8 @@ pub(crate) fn leave_path(paths: &mut PathTable, node: u32, entry: &NodeRecord) -
     ensures done { OnOk result (IsNodeOut entry.now.kind entry.now.path paths.old.paths (Some paths.new.paths)) }
     ensures cannot { IfErr result (λ fault. IsNodeOut entry.now.kind entry.now.path paths.old.paths None) }
     ensures same_mark { paths.new.marked ≡ paths.old.marked }
-    ensures fault { (next : ℕ) → IfErr result (IsBreachFault next) }
+    ensures fault { (o : Option (RecordMap TheRecord)) (next : ℕ) → NeedsPath o next node
+        → IfErr result (IsBreachFault o next) }
 {
     if is_value(entry.kind) {
         return count_out(paths, node, entry.path);

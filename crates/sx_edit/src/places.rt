@@ -1,8 +1,10 @@
 //! Where a new value comes.
-ghost use Rattle.std.specs.Prelude.{◌≡◌, ◌≤◌, ◌<◌, ◌^◌, if◌then◌else◌, None, Some, IfErr, IfOk};
+ghost use Rattle.std.specs.Prelude.{◌≡◌, ◌+◌, ◌≤◌, ◌<◌, ◌^◌, if◌then◌else◌, None, Some, IfErr, IfOk, IfSome};
 ghost use Rattle.sx_outside.specs.Faults.{Rose};
+ghost use Rattle.sx_edit.specs.Damage.{LeadsTo};
 ghost use Rattle.sx_edit.specs.EditFault.{ExplainsEdit};
 ghost use Rattle.sx_edit.specs.Places.{IsPlace, IsNoPlace, place_below, place_beside};
+ghost use Rattle.sx_edit.specs.Seen.{AreReached};
 ghost use Rattle.sx_edit.specs.Steps.{GoesOn};
 
 use crate::fault::EditFault;
@@ -19,16 +21,19 @@ fn gap_below(node: u32, entry: &NodeRecord, last: bool) -> Gap
     ensures parent { result.parent ≡ node }
     ensures left { result.left ≡ (if last then entry.now.last else None) }
     ensures right { result.right ≡ (if last then None else entry.now.first) }
+    ensures near { result.near ≡ node }
 {
     if last {
         Gap {
             parent: node,
+            near: node,
             left: entry.last,
             right: None,
         }
     } else {
         Gap {
             parent: node,
+            near: node,
             left: None,
             right: entry.first,
         }
@@ -41,16 +46,19 @@ fn gap_beside(parent: u32, node: u32, entry: &NodeRecord, after: bool) -> Gap
     ensures parent { result.parent ≡ parent }
     ensures left { result.left ≡ (if after then Some node else entry.now.left) }
     ensures right { result.right ≡ (if after then entry.now.right else Some node) }
+    ensures near { result.near ≡ node }
 {
     if after {
         Gap {
             parent,
+            near: node,
             left: Some(node),
             right: entry.right,
         }
     } else {
         Gap {
             parent,
+            near: node,
             left: entry.left,
             right: Some(node),
         }
@@ -68,6 +76,10 @@ fn below<N: RecordsMut<NodeRecord>>(
     requires { next ≤ 2 ^ 30 }
     ensures place { IfOk result (IsPlace (place_below last node) next (N.told nodes.old)) }
     ensures parent_fits { IfOk result (λ target. target.gap.parent < 2 ^ 30) }
+    ensures reached { IfOk result (λ target. AreReached (N.told nodes.old) target.gap) }
+    ensures first { IfOk result (λ target. IfSome target.first
+        (λ to. LeadsTo (N.told nodes.old) target.gap.parent to)) }
+    ensures gets { N.gets nodes.new ≤ N.gets nodes.old + 2 }
     ensures none { IfErr result (IsNoPlace (place_below last node) next (N.told nodes.old)) }
     ensures same { N.told nodes.new ≡ N.told nodes.old }
     ensures goes_on { GoesOn N.told N.faults N.has_mark N.marks nodes.old nodes.new }
@@ -103,6 +115,10 @@ fn beside<N: RecordsMut<NodeRecord>>(
     requires { next ≤ 2 ^ 30 }
     ensures place { IfOk result (IsPlace (place_beside after node) next (N.told nodes.old)) }
     ensures parent_fits { IfOk result (λ target. target.gap.parent < 2 ^ 30) }
+    ensures reached { IfOk result (λ target. AreReached (N.told nodes.old) target.gap) }
+    ensures first { IfOk result (λ target. IfSome target.first
+        (λ to. LeadsTo (N.told nodes.old) target.gap.parent to)) }
+    ensures gets { N.gets nodes.new ≤ N.gets nodes.old + 2 }
     ensures none { IfErr result (IsNoPlace (place_beside after node) next (N.told nodes.old)) }
     ensures same { N.told nodes.new ≡ N.told nodes.old }
     ensures goes_on { GoesOn N.told N.faults N.has_mark N.marks nodes.old nodes.new }
@@ -141,6 +157,10 @@ pub(crate) fn target_of<N: RecordsMut<NodeRecord>>(
     requires { next ≤ 2 ^ 30 }
     ensures place { IfOk result (IsPlace place next (N.told nodes.old)) }
     ensures parent_fits { IfOk result (λ target. target.gap.parent < 2 ^ 30) }
+    ensures reached { IfOk result (λ target. AreReached (N.told nodes.old) target.gap) }
+    ensures first { IfOk result (λ target. IfSome target.first
+        (λ to. LeadsTo (N.told nodes.old) target.gap.parent to)) }
+    ensures gets { N.gets nodes.new ≤ N.gets nodes.old + 2 }
     ensures none { IfErr result (IsNoPlace place next (N.told nodes.old)) }
     ensures same { N.told nodes.new ≡ N.told nodes.old }
     ensures goes_on { GoesOn N.told N.faults N.has_mark N.marks nodes.old nodes.new }

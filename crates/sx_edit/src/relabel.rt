@@ -1,47 +1,46 @@
 //! Another kind, label and path of a node.
-ghost use Rattle.std.specs.Prelude.{◌≡◌, ◌<◌, ◌^◌, Some, IfErr, OnOk};
-ghost use Rattle.std.specs.Option.{ForSome};
-ghost use Rattle.std.specs.FinMap as map;
-ghost use Rattle.sx_outside.specs.Faults.{Rose};
-ghost use Rattle.sx_edit.specs.Damage.{Explains, IsDamaged};
+ghost use Rattle.std.specs.Prelude.{◌≡◌, ◌<◌, ◌^◌, IfErr, OnOk};
+ghost use Rattle.sx_view.specs.Rows.{row_of};
+ghost use Rattle.sx_edit.specs.Damage.{IsRecord};
+ghost use Rattle.sx_edit.specs.Edited.{IsRelabeled};
+ghost use Rattle.sx_edit.specs.Seen.{upward};
 ghost use Rattle.sx_edit.specs.Steps.{GoesOn};
-ghost use Rattle.sx_edit.specs.Told.{moment_of};
-ghost use Rattle.sx_edit.specs.Edited.{CannotRelabel, IsRelabeled};
+ghost use Rattle.sx_view.specs.declared.fault.Fault.TheVariants.{OutOfMemory};
 
 use crate::label::Label;
 use crate::lift::{Shift, lift};
 use crate::reads::write;
+use crate::trees::Seen;
 use std::alloc::Global;
 use sx_hash::local;
 use sx_tree::record::NodeRecord;
 use sx_view::{Fault, RecordsMut};
 
 /// Gives the node, whose record this is, another kind and label, and the path of this number, and adapts the hashes
-/// above it.
+/// above it: of these nodes, the nearest last.
 pub(crate) fn relabel<N: RecordsMut<NodeRecord>>(
     alloc: Global,
     nodes: &mut N,
-    next: u32,
     node: u32,
     entry: NodeRecord,
+    above: Vec<Seen>,
     label: Label,
     path: u32,
 ) -> Result<(), Fault>
-    requires there { ForSome (N.told nodes.old) (λ records. map.get records node ≡ Some entry) }
+    requires there { IsRecord (N.told nodes.old) node entry }
     requires path_fits { path < 2 ^ 30 }
-    ensures done { OnOk result (IsRelabeled node label.kind label.text path (moment_of N.told N.gets nodes.old)
-        (moment_of N.told N.gets nodes.new)) }
-    ensures cannot { IfErr result (λ fault. IsDamaged fault → CannotRelabel node next (N.told nodes.old)) }
+    ensures done { OnOk result (IsRelabeled node label.kind label.text path (upward above.items) (N.told nodes.old)
+        (N.told nodes.new)) }
+    ensures same_gets { N.gets nodes.new ≡ N.gets nodes.old }
     ensures goes_on { GoesOn N.told N.faults N.has_mark N.marks nodes.old nodes.new }
-    ensures fault { IfErr result (Explains next (N.told nodes.old) (Rose (N.faults nodes.old) (N.faults nodes.new))) }
+    ensures memory { IfErr result (λ fault. fault ≡ OutOfMemory) }
 {
     let before = local(entry.kind, entry.label.as_bytes());
     let after = local(label.kind, label.text.as_bytes());
     let more = after.wrapping_sub(before);
-    let parent = entry.parent;
     let changed = NodeRecord {
         kind: label.kind,
-        parent,
+        parent: entry.parent,
         left: entry.left,
         right: entry.right,
         first: entry.first,
@@ -58,5 +57,5 @@ pub(crate) fn relabel<N: RecordsMut<NodeRecord>>(
         minus: 0,
         hash: more,
     };
-    lift(alloc, nodes, next, node, parent, shift)
+    lift(alloc, nodes, above, shift)
 }

@@ -1,18 +1,23 @@
 //! Trees that stand on other paths.
-ghost use Rattle.std.specs.Prelude.{◌≡◌, ◌<◌, ◌≤◌, ◌^◌, ℕ, [], ◌∷◌, None, Some, IfErr, IfNone, IfOk, IfSome, OnOk};
+ghost use Rattle.std.specs.Prelude.{◌≡◌, ◌+◌, ◌<◌, ◌≤◌, ◌^◌, ℕ, [], ◌∷◌, None, Some, IfErr, IfNone, IfOk, IfSome, OnOk, Option, length};
 ghost use Rattle.sx_outside.specs.Faults.{Rose};
-ghost use Rattle.sx_edit.specs.Damage.{IsBreachFault};
+ghost use Rattle.sx_tree.specs.declared.record.NodeRecord.{NodeRecord as TheRecord};
+ghost use Rattle.sx_view.specs.Records.{RecordMap};
+ghost use Rattle.sx_edit.specs.Damage.{IsBreachFault, LeadsTo, NeedsPath};
 ghost use Rattle.sx_edit.specs.EditFault.{ExplainsEdit, IsBreachEdit};
 ghost use Rattle.sx_edit.specs.Pathways.{kept};
-ghost use Rattle.sx_edit.specs.Repath.{CannotExchange, IsExchanged, IsRepathed, IsUnder, StopsRepathing, StopsUnder, first_goals, goal_of, goals_of, with_goal};
+ghost use Rattle.sx_edit.specs.Repath.{AllLead, CannotExchange, IsExchanged, IsRepathed, IsUnder, StopsRepathing, StopsUnder, first_goals, goal_of, goals_of, with_goal};
+ghost use Rattle.sx_edit.specs.Seen.{entries_of};
 ghost use Rattle.sx_edit.specs.Steps.{GoesOn};
+ghost use Rattle.sx_edit.specs.Clear.{first_tops};
+ghost use Rattle.sx_edit.specs.Told.{IsWalked, numbers_of};
 
 use crate::damage::endless;
 use crate::fault::EditFault;
 use crate::kinds::is_value;
 use crate::paths::{count_in, count_out, name_step, step_onto};
-use crate::reads::{read_linked, write};
-use crate::trees::{Move, Over};
+use crate::reads::read_linked;
+use crate::trees::{Move, Over, Seen, push_seen};
 use std::alloc::{AllocError, Global};
 use sx_paths::PathTable;
 use sx_tree::record::{Kind, NodeRecord, Step};
@@ -26,7 +31,10 @@ fn push_move(
     from: u32,
     to: Option<u32>,
 ) -> Result<(), AllocError>
-    ensures { OnOk result (goals_of moves.new.items ≡ with_goal over.kind over.path to (goals_of moves.old.items)) }
+    ensures goals { OnOk result (goals_of moves.new.items
+        ≡ with_goal over.kind over.path to (goals_of moves.old.items)) }
+    ensures lead { (o : Option (RecordMap TheRecord)) → IfSome to (λ to. LeadsTo o from to) → AllLead o moves.old.items
+        → OnOk result (AllLead o moves.new.items) }
 {
     if let Some(to) = to {
         moves.push(Move { over, from, to })?;
@@ -39,6 +47,8 @@ fn pop_move(moves: &mut Vec<Move>) -> Option<Move>
     ensures some { IfSome result (λ at. goals_of moves.old.items
         ≡ goal_of at.over.kind at.over.path at.to ∷ goals_of moves.new.items) }
     ensures none { IfNone result (goals_of moves.old.items ≡ []) }
+    ensures lead { (o : Option (RecordMap TheRecord)) → AllLead o moves.old.items
+        → AllLead o moves.new.items × IfSome result (λ at. LeadsTo o at.from at.to) }
 {
     moves.pop()
 }
@@ -57,7 +67,8 @@ fn path_under(
     ensures fits { IfOk result (λ number. number < 2 ^ 30) }
     ensures stops { IfErr result (StopsUnder over.kind over.path label.now had paths.old.paths) }
     ensures same_mark { paths.new.marked ≡ paths.old.marked }
-    ensures fault { (next : ℕ) → IfErr result (IsBreachEdit next) }
+    ensures fault { (o : Option (RecordMap TheRecord)) (next : ℕ) → NeedsPath o next node
+        → IfErr result (IsBreachEdit o next) }
 {
     match over.kind {
         Kind::Document => step_onto(alloc, paths, had, node, 0, Step::Top),
@@ -81,7 +92,8 @@ fn change_path(
     ensures done { OnOk result (IsExchanged kind old new paths.old.paths paths.new.paths) }
     ensures cannot { IfErr result (λ fault. CannotExchange kind old new paths.old.paths) }
     ensures same_mark { paths.new.marked ≡ paths.old.marked }
-    ensures fault { (next : ℕ) → IfErr result (IsBreachFault next) }
+    ensures fault { (o : Option (RecordMap TheRecord)) (next : ℕ) → NeedsPath o next node
+        → IfErr result (IsBreachFault o next) }
 {
     if is_value(kind) {
         count_out(paths, node, old)?;
@@ -90,8 +102,8 @@ fn change_path(
     Ok(())
 }
 
-/// Puts the trees from this child of the node on to the right, with all below them, on the paths that go on from the
-/// node's new one.
+/// Finds the paths that go on from the node's new one for the trees from this child of the node on to the right, with
+/// all below them, and counts their values there. Gives their nodes, with the records that they are to have.
 ///
 /// # Errors
 ///
@@ -103,40 +115,49 @@ pub(crate) fn repath<N: RecordsMut<NodeRecord>>(
     paths: &mut PathTable,
     had: u32,
     next: u32,
+    node: u32,
     over: Over,
     first: Option<u32>,
-) -> Result<(), EditFault>
-    ensures done { OnOk result (IsRepathed (first_goals over.kind over.path first) next
-        (kept (N.told nodes.old) paths.old.paths)
-        (kept (N.told nodes.new) paths.new.paths)) }
+) -> Result<Vec<Seen>, EditFault>
+    requires { IfSome first (λ to. LeadsTo (N.told nodes.old) node to) }
+    ensures done { IfOk result (λ moved. IsRepathed (first_goals over.kind over.path first) next
+        (kept (N.told nodes.old) paths.old.paths) paths.new.paths (entries_of moved.items)) }
     ensures stops { IfErr result (StopsRepathing (first_goals over.kind over.path first) next had
         (kept (N.told nodes.old) paths.old.paths)) }
+    ensures walked { IfOk result (λ moved. IsWalked (first_tops first) next (N.told nodes.old)
+        (numbers_of (entries_of moved.items))) }
+    ensures gets { IfOk result (λ moved. N.gets nodes.new ≤ N.gets nodes.old + length moved.items) }
+    ensures same { N.told nodes.new ≡ N.told nodes.old }
     ensures same_mark { paths.new.marked ≡ paths.old.marked }
     ensures goes_on { GoesOn N.told N.faults N.has_mark N.marks nodes.old nodes.new }
     ensures fault { IfErr result (ExplainsEdit next (N.told nodes.old)
         (Rose (N.faults nodes.old) (N.faults nodes.new))) }
 {
+    let mut moved: Vec<Seen> = Vec::new(alloc);
     let mut left: Vec<Move> = Vec::new(alloc);
-    push_move(&mut left, over, over.node, first)?;
+    push_move(&mut left, over, node, first)?;
     for _turn in 0..next {
         let Some(at) = pop_move(&mut left) else {
-            return Ok(());
+            return Ok(moved);
         };
-        let mut entry = read_linked(alloc, nodes, at.from, at.to)?;
-        let path = path_under(alloc, paths, had, at.over, at.to, &entry.label)?;
-        change_path(paths, at.to, entry.kind, entry.path, path)?;
-        push_move(&mut left, at.over, at.to, entry.right)?;
+        let mut record = read_linked(alloc, nodes, at.from, at.to)?;
+        let path = path_under(alloc, paths, had, at.over, at.to, &record.label)?;
+        change_path(paths, at.to, record.kind, record.path, path)?;
+        push_move(&mut left, at.over, at.to, record.right)?;
         let below = Over {
-            node: at.to,
-            kind: entry.kind,
+            kind: record.kind,
             path,
         };
-        push_move(&mut left, below, at.to, entry.first)?;
-        entry.path = path;
-        write(alloc, nodes, at.to, entry)?;
+        push_move(&mut left, below, at.to, record.first)?;
+        record.path = path;
+        let one = Seen {
+            node: at.to,
+            record,
+        };
+        push_seen(&mut moved, one)?;
     }
     match pop_move(&mut left) {
         Some(_) => Err(EditFault::Damaged(endless(next))),
-        None => Ok(()),
+        None => Ok(moved),
     }
 }

@@ -1,20 +1,21 @@
 //! A value in the place of a node with all below it.
-ghost use Rattle.std.specs.Prelude.{◌≡◌, ◌-◌, ◌≤◌, ◌^◌, IfErr, length, min};
+ghost use Rattle.std.specs.Prelude.{◌≡◌, ◌-◌, ◌≤◌, ◌^◌, IfErr, length, min, OnOk};
 ghost use Rattle.sx_outside.specs.Faults.{Rose};
 ghost use Rattle.sx_tree.specs.Value.{value_of};
 ghost use Rattle.sx_model.specs.Edit as model;
 ghost use Rattle.sx_edit.specs.Answers.{AnswersEach};
 ghost use Rattle.sx_edit.specs.EditFault.{ExplainsEdit};
+ghost use Rattle.sx_edit.specs.Gets.{GetsAtMost};
 ghost use Rattle.sx_edit.specs.Pathways.{kept};
 ghost use Rattle.sx_edit.specs.Steps.{GoesOn};
 
+use crate::climb::survey;
 use crate::fault::EditFault;
 use crate::fill::fill;
 use crate::kinds::is_value;
-use crate::reads::{parent_of, read};
-use crate::removal::{take_out, tree_of};
+use crate::reads::{erase_all, parent_of, read};
+use crate::removal::{gap_of, tree_of, uproot};
 use crate::room::make_room;
-use crate::trees::Gap;
 use std::alloc::Global;
 use sx_paths::PathTable;
 use sx_tree::edit::{EditRefusal, Edited};
@@ -37,6 +38,8 @@ pub(crate) fn replace<N: RecordsMut<NodeRecord>>(
     ensures answers { AnswersEach (model.replace node (value_of value.now)) next
         (kept (N.told nodes.old) paths.old.paths)
         (kept (N.told nodes.new) paths.new.paths) result }
+    ensures work { OnOk result (GetsAtMost (model.replace node (value_of value.now)) next (N.told nodes.old)
+        (N.gets nodes.old) (N.gets nodes.new)) }
     ensures same_mark { paths.new.marked ≡ paths.old.marked }
     ensures goes_on { GoesOn N.told N.faults N.has_mark N.marks nodes.old nodes.new }
     ensures fault { IfErr result (ExplainsEdit next (N.told nodes.old)
@@ -52,15 +55,13 @@ pub(crate) fn replace<N: RecordsMut<NodeRecord>>(
         }));
     }
     let parent = parent_of(node, &entry)?;
-    let more = make_room(alloc, nodes, next, parent, 0, value)?;
+    let gap = gap_of(node, parent, &entry);
+    let rim = survey(alloc, nodes, next, gap)?;
+    let more = make_room(next, rim.levels, 0, value)?;
     let tree = tree_of(node, &entry)?;
     let path = entry.path;
-    take_out(alloc, nodes, paths, next, node, &entry)?;
-    let gap = Gap {
-        parent,
-        left: entry.left,
-        right: entry.right,
-    };
+    let gone = uproot(alloc, nodes, paths, next, node, &entry)?;
+    erase_all(alloc, nodes, gone)?;
     fill(
         alloc,
         nodes,
@@ -68,6 +69,7 @@ pub(crate) fn replace<N: RecordsMut<NodeRecord>>(
         had,
         next,
         gap,
+        rim,
         Some(tree),
         None,
         value,

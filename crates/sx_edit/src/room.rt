@@ -1,21 +1,17 @@
 //! Whether a document has room for a value.
-ghost use Rattle.std.specs.Prelude.{◌≡◌, ◌+◌, ◌-◌, ◌≤◌, ◌^◌, min, nat_lt, IfErr, IfNone, IfOk};
-ghost use Rattle.sx_outside.specs.Faults.{Rose};
+ghost use Rattle.std.specs.Prelude.{◌≡◌, ◌+◌, ◌-◌, ◌≤◌, ◌^◌, ℕ, Option, Some, min, nat_lt, IfErr, IfNone, IfOk};
 ghost use Rattle.sx_tree.specs.Value as plain;
 ghost use Rattle.sx_tree.specs.Value.{value_of, depth};
 ghost use Rattle.sx_tree.specs.declared.edit.EditRefusal.TheVariants as refusals;
+ghost use Rattle.sx_tree.specs.declared.record.NodeRecord.{NodeRecord};
+ghost use Rattle.sx_view.specs.Records.{RecordMap};
 ghost use Rattle.sx_model.specs.Edit.{nesting_limit, number_limit, when};
-ghost use Rattle.sx_edit.specs.EditFault.{ExplainsEdit};
-ghost use Rattle.sx_edit.specs.Room.{MakesRoom};
-ghost use Rattle.sx_edit.specs.Steps.{GoesOn};
+ghost use Rattle.sx_edit.specs.EditFault.{IsRefused};
+ghost use Rattle.sx_edit.specs.Room.{CountsLevels, MakesRoom};
 
 use crate::fault::EditFault;
-use crate::levels::levels_from;
-use std::alloc::Global;
 use sx_tree::edit::EditRefusal;
 use sx_tree::json::Json;
-use sx_tree::record::NodeRecord;
-use sx_view::RecordsMut;
 
 /// So many arrays and objects nest at most.
 const NESTING: u32 = 256;
@@ -55,30 +51,20 @@ fn spent(next: u32, more: u64) -> Option<EditRefusal>
     None
 }
 
-/// How many nodes a value becomes that comes below the parent, with so many more for its name.
+/// How many nodes a value becomes that comes below so many arrays and objects, with so many more for its name.
 ///
 /// # Errors
 ///
 /// `TooDeep`, then `NumbersSpent`.
-pub(crate) fn make_room<N: RecordsMut<NodeRecord>>(
-    alloc: Global,
-    nodes: &mut N,
-    next: u32,
-    parent: u32,
-    names: u32,
-    value: &Json,
-) -> Result<u32, EditFault>
-    requires { next ≤ 2 ^ 30 }
-    ensures room { MakesRoom next parent (value_of value.now) (names + plain.nodes (value_of value.now))
-        (N.told nodes.old) result }
+pub(crate) fn make_room(next: u32, around: u32, names: u32, value: &Json) -> Result<u32, EditFault>
+    requires few { next ≤ 2 ^ 30 }
+    requires low { around ≤ next }
+    ensures room { (parent : ℕ) (o : Option (RecordMap NodeRecord)) → CountsLevels (Some parent) next o (Some around)
+        → MakesRoom next parent (value_of value.now) (names + plain.nodes (value_of value.now)) o result }
     ensures count { IfOk result (λ more. more ≡ names + plain.nodes (value_of value.now)) }
     ensures enough { IfOk result (λ more. next + (names + plain.nodes (value_of value.now)) ≤ 2 ^ 30) }
-    ensures same { N.told nodes.new ≡ N.told nodes.old }
-    ensures goes_on { GoesOn N.told N.faults N.has_mark N.marks nodes.old nodes.new }
-    ensures fault { IfErr result (ExplainsEdit next (N.told nodes.old)
-        (Rose (N.faults nodes.old) (N.faults nodes.new))) }
+    ensures fault { IfErr result IsRefused }
 {
-    let around = levels_from(alloc, nodes, next, parent, Some(parent))?;
     if let Some(refusal) = too_deep(around, value) {
         return Err(EditFault::Refused(refusal));
     }

@@ -1,13 +1,15 @@
 //! Another scalar in a scalar's place.
-ghost use Rattle.std.specs.Prelude.{◌≡◌, List, IfErr, OnOk};
+ghost use Rattle.std.specs.Prelude.{◌≡◌, ◌≤◌, ◌^◌, List, IfErr, OnOk};
 ghost use Rattle.sx_outside.specs.Faults.{Rose};
 ghost use Rattle.sx_model.specs.Edit as model;
 ghost use Rattle.sx_model.specs.Records.{PathRow};
 ghost use Rattle.sx_edit.specs.Answers.{AnswersEach, GetsFew};
 ghost use Rattle.sx_edit.specs.EditFault.{ExplainsEdit};
+ghost use Rattle.sx_edit.specs.Gets.{GetsAtMost};
 ghost use Rattle.sx_edit.specs.Pathways.{kept};
 ghost use Rattle.sx_edit.specs.Steps.{GoesOn};
 
+use crate::climb::climb;
 use crate::fault::EditFault;
 use crate::kinds::is_scalar;
 use crate::label::scalar_label;
@@ -27,10 +29,13 @@ pub(crate) fn set_scalar<N: RecordsMut<NodeRecord>>(
     node: u32,
     value: &Scalar,
 ) -> Result<Edited, EditFault>
+    requires few { next ≤ 2 ^ 30 }
     ensures answers { (table : List PathRow)
         → AnswersEach (model.set_scalar node value.now) next (kept (N.told nodes.old) table)
         (kept (N.told nodes.new) table) result }
     ensures gets { OnOk result (GetsFew node next (N.told nodes.old) (N.gets nodes.old) (N.gets nodes.new)) }
+    ensures work { OnOk result (GetsAtMost (model.set_scalar node value.now) next (N.told nodes.old)
+        (N.gets nodes.old) (N.gets nodes.new)) }
     ensures goes_on { GoesOn N.told N.faults N.has_mark N.marks nodes.old nodes.new }
     ensures fault { IfErr result (ExplainsEdit next (N.told nodes.old)
         (Rose (N.faults nodes.old) (N.faults nodes.new))) }
@@ -44,8 +49,9 @@ pub(crate) fn set_scalar<N: RecordsMut<NodeRecord>>(
             kind: entry.kind,
         }));
     }
+    let ascent = climb(alloc, nodes, next, node, entry.parent)?;
     let label = scalar_label(alloc, value)?;
     let path = entry.path;
-    relabel(alloc, nodes, next, node, entry, label, path)?;
+    relabel(alloc, nodes, node, entry, ascent.seen, label, path)?;
     Ok(Edited { first: None, next })
 }

@@ -1,8 +1,51 @@
 //! Trees among siblings, and where they stand.
-ghost use Rattle.std.specs.Prelude.{◌<◌, ◌^◌};
+ghost use Rattle.std.specs.Prelude.{◌≡◌, ◌<◌, ◌^◌, [], ◌∷◌, ◌++◌, OnOk};
 ghost use Rattle.sx_tree.specs.Record.{IsLink};
 
-use sx_tree::record::Kind;
+use std::alloc::AllocError;
+use sx_tree::record::{Kind, NodeRecord};
+
+/// A node that was read, with its record.
+#[derive(Drop)]
+pub(crate) struct Seen {
+    pub(crate) node: u32,
+    pub(crate) record: NodeRecord,
+}
+
+/// Adds the node at the end. A failure changes nothing.
+pub(crate) fn push_seen(seen: &mut Vec<Seen>, one: Seen) -> Result<(), AllocError>
+    ensures { OnOk result (seen.new.items ≡ seen.old.items ++ one ∷ []) }
+{
+    seen.push(one)?;
+    Ok(())
+}
+
+/// Adds the number at the end. A failure changes nothing.
+pub(crate) fn push_number(numbers: &mut Vec<u32>, number: u32) -> Result<(), AllocError>
+    ensures { OnOk result (numbers.new.items ≡ numbers.old.items ++ number ∷ []) }
+{
+    numbers.push(number)?;
+    Ok(())
+}
+
+/// What stands around a gap, as it was read: the siblings beside it, the node above it, and those above that one, the
+/// nearest last.
+#[derive(Drop)]
+pub(crate) struct Rim {
+    pub(crate) left: Option<Seen>,
+    pub(crate) right: Option<Seen>,
+    pub(crate) parent: Seen,
+    pub(crate) above: Vec<Seen>,
+    /// How many arrays and objects there are from the parent up.
+    pub(crate) levels: u32,
+}
+
+/// Nodes from one up to the top, and how many arrays and objects are among them.
+#[derive(Drop)]
+pub(crate) struct Ascent {
+    pub(crate) seen: Vec<Seen>,
+    pub(crate) levels: u32,
+}
 
 /// A tree.
 #[derive(Clone, Copy)]
@@ -20,6 +63,8 @@ pub(crate) struct Tree {
 #[derive(Clone, Copy)]
 pub(crate) struct Gap {
     pub(crate) parent: u32,
+    /// The node by whose links the siblings are known.
+    pub(crate) near: u32,
     pub(crate) left: Option<u32>,
     pub(crate) right: Option<u32>,
     ghost left_fits: { IsLink left },
@@ -56,10 +101,9 @@ pub(crate) struct Target {
     ghost path_fits: { path < 2 ^ 30 },
 }
 
-/// A node, with its kind and the number of its new path.
+/// The kind of a node, and the number of its new path.
 #[derive(Clone, Copy)]
 pub(crate) struct Over {
-    pub(crate) node: u32,
     pub(crate) kind: Kind,
     pub(crate) path: u32,
     ghost path_fits: { path < 2 ^ 30 },

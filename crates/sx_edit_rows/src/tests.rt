@@ -19,7 +19,7 @@ use sx_record::Record;
 use sx_tree::edit::{Edit, EditRefusal, Edited, Place};
 use sx_tree::json::Scalar;
 use sx_tree::literal::Literal;
-use sx_tree::record::{Kind, NodeRecord, PathRecord};
+use sx_tree::record::{Kind, NodeRecord, PathRecord, Step};
 use sx_tree::text::Text;
 use sx_view::{MemRecords, Records, RecordsMut};
 
@@ -407,6 +407,55 @@ fn missing_paths(rt: HostRuntime) -> Result<(), Fail> {
         Err(EditFault::Damaged(damage))
     );
     assert!(rt; document.is(alloc, &ONE, &NONE_PATHS)?);
+    Ok(())
+}
+
+/// The sibling beside node 2 has no record.
+#[test]
+fn broken_link(rt: HostRuntime) -> Result<(), Fail> {
+    let alloc = rt.alloc();
+    let nodes = [THREE[0], THREE[1], THREE[2], THREE[4]];
+    let mut document = document_of(alloc, &nodes, &THREE_PATHS)?;
+    let damage = number_damage(0, 23, 2, 3);
+    assert_eq!(rt;
+        document.edit(alloc, &Edit::Remove { node: 2 }, NEXT),
+        Err(EditFault::Damaged(damage))
+    );
+    assert!(rt; document.is(alloc, &nodes, &THREE_PATHS)?);
+    Ok(())
+}
+
+/// Node 0 stands below itself.
+#[test]
+fn endless_walk(rt: HostRuntime) -> Result<(), Fail> {
+    let alloc = rt.alloc();
+    let nodes = [(0, THREE[1].1), THREE[1], THREE[2]];
+    let mut document = document_of(alloc, &nodes, &THREE_PATHS)?;
+    let damage = number_damage(0, 24, 9, 10);
+    let value = Scalar::Null;
+    assert_eq!(rt;
+        document.edit(alloc, &Edit::SetScalar { node: 2, value }, NEXT),
+        Err(EditFault::Damaged(damage))
+    );
+    assert!(rt; document.is(alloc, &nodes, &THREE_PATHS)?);
+    Ok(())
+}
+
+/// Path 3 goes on from itself.
+#[test]
+fn path_from_itself(rt: HostRuntime) -> Result<(), Fail> {
+    let alloc = rt.alloc();
+    let paths = [FIELDS_PATHS[0], FIELDS_PATHS[1]];
+    let mut document = document_of(alloc, &FIELDS, &paths)?;
+    if document.paths.find(3, &Step::Item).is_none() && document.paths.len() < 3 {
+        document.paths.enter(alloc, 3, Step::Item)?;
+    }
+    let edit = insert(alloc, Place::Last(5), None, b"5")?;
+    let damage = number_damage(0, 26, 9, 3);
+    assert_eq!(rt;
+        document.edit(alloc, &edit, NEXT),
+        Err(EditFault::Damaged(damage))
+    );
     Ok(())
 }
 

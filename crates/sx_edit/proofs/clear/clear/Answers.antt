@@ -1,23 +1,25 @@
-use Rattle.std.proofs.Common.{◌∙◌, ap, arith, refl}
-use Rattle.std.specs.Prelude.{option_map}
-use Rattle.std.specs.FinMap.{remove}
+use Rattle.std.proofs.Common.{◌∙◌, ap, arith, inl, refl, subst}
 use Rattle.sx_edit.specs.Clear.{with_top}
-use Rattle.sx_edit.proofs.Results.{err_again}
-use Rattle.sx_edit.proofs.Going.{breach_explains, err-explains, goes_then}
-use Rattle.sx_edit.proofs.Clearing.{cleared-none, cleared-absent, cleared-step, cleared-stopped, discounted-cannot, discounted-none, discounted-step, discounted-stopped}
+use Rattle.sx_edit.specs.Damage.{IsRecord}
+use Rattle.sx_edit.proofs.Results.{err_again, pushed-length}
+use Rattle.sx_edit.proofs.Going.{breach_explains, endless_explains, err-explains, goes_then, leads-first, leads-right, reached-parent}
+use Rattle.sx_edit.proofs.Clearing.{discounted-cannot, discounted-none, discounted-step, discounted-stopped, walked-absent, walked-end, walked-on, walked-step, walked-stopped}
 use Rattle.sx_edit.proofs.clear.clear.Goals as goal
 
-pub returns-in_default-clause-done : goal.returns-in_default-clause-done
-returns-in_default-clause-done g c = c.loop-turn.invariant.clears _ (rw c.in_default.ensures.none (cleared-none _ _))
+pub read_linked-requires : goal.read_linked-requires
+read_linked-requires g c = reached-parent _ _ _ _ c.loop-turn.invariant.same (inl (c.in-Some.ensures.lead _ c.loop-turn.invariant.lead).1)
 
-pub returns-clause-done : goal.returns-clause-done
-returns-clause-done g c = c.loop-turn.invariant.clears _ (rw c.in-None.ensures.none (cleared-none _ _))
+pub returns-in_default-clause-walked : goal.returns-in_default-clause-walked
+returns-in_default-clause-walked g c = walked-end _ _ _ _ _ _ _ c.loop-turn.invariant.walks c.in_default.ensures.none
+
+pub returns-in-None-clause-walked : goal.returns-in-None-clause-walked
+returns-in-None-clause-walked g c = walked-end _ _ _ _ _ _ _ c.loop-turn.invariant.walks c.in-None.ensures.none
 
 pub returns-in_default-clause-discounted : goal.returns-in_default-clause-discounted
 returns-in_default-clause-discounted g c = c.loop-turn.invariant.discounts _ (rw c.in_default.ensures.none (discounted-none _ _))
 
-pub returns-clause-discounted : goal.returns-clause-discounted
-returns-clause-discounted g c = c.loop-turn.invariant.discounts _ (rw c.in-None.ensures.none (discounted-none _ _))
+pub returns-in-None-clause-discounted : goal.returns-in-None-clause-discounted
+returns-in-None-clause-discounted g c = c.loop-turn.invariant.discounts _ (rw c.in-None.ensures.none (discounted-none _ _))
 
 pub returns-in_err-leave_path-clause-cannot : goal.returns-in_err-leave_path-clause-cannot
 returns-in_err-leave_path-clause-cannot g c =
@@ -26,35 +28,42 @@ returns-in_err-leave_path-clause-cannot g c =
 
 pub returns-in_err-leave_path-clause-fault : goal.returns-in_err-leave_path-clause-fault
 returns-in_err-leave_path-clause-fault g c =
-    err_again c.from_residual-in_err-leave_path.result _ _ c.from_residual-in_err-leave_path.ensures.1 (breach_explains c.args.next _ _ _ (c.in_err-leave_path.ensures.fault c.args.next))
+    err_again c.from_residual-in_err-leave_path.result _ _ c.from_residual-in_err-leave_path.ensures.1 (breach_explains c.args.next _ _ _ (c.in_err-leave_path.ensures.fault (g.N.Records.told c.args.nodes.now) c.args.next
+    (inl (c.in_ok-entry.entry, subst (λ o. IsRecord o c.in-Some.link.to c.in_ok-entry.entry) c.loop-turn.invariant.same c.in_ok-entry.ensures.found))))
 
 pub returns-in_err-entry-clause-cannot : goal.returns-in_err-entry-clause-cannot
 returns-in_err-entry-clause-cannot g c =
     err_again c.from_residual-in_err-entry.result _ _ c.from_residual-in_err-entry.ensures.1
-    (λ is. c.loop-turn.invariant.discounts _ (rw c.in-Some.ensures.some (discounted-cannot _ _ _ (cleared-absent _ _ _ _ (c.in_err-entry.ensures.absent is)))))
+    (λ is. c.loop-turn.invariant.discounts _ (rw c.in-Some.ensures.some (discounted-cannot _ _ _ (walked-absent _ _ _ _ (c.in_err-entry.ensures.absent is)))))
 
 pub returns-in_err-entry-clause-fault : goal.returns-in_err-entry-clause-fault
 returns-in_err-entry-clause-fault g c =
     err-explains g.N.Records.told g.N.Records.faults g.N.RecordsMut.has_mark g.N.RecordsMut.marks c.args.next _ c.loop-turn.nodes _ c.from_residual-in_err-entry.result _
-    c.from_residual-in_err-entry.ensures.1 c.loop-turn.invariant.goes_on (c.in_err-entry.ensures.fault c.args.next)
+    c.from_residual-in_err-entry.ensures.1 c.loop-turn.invariant.goes_on c.loop-turn.invariant.same (c.in_err-entry.ensures.fault c.args.next)
 
 pub returns-in-Some-pop_link-clause-cannot : goal.returns-in-Some-pop_link-clause-cannot
 returns-in-Some-pop_link-clause-cannot g c = λ _.
-    c.loop-turn.invariant.discounts _ (discounted-cannot _ _ _ (cleared-stopped _ _ _ _ _ c.in-Some-pop_link.ensures.some (omega arith)))
+    c.loop-turn.invariant.discounts _ (discounted-cannot _ _ _ (walked-stopped _ _ _ _ _ c.in-Some-pop_link.ensures.some (omega arith)))
+
+pub returns-in-Some-pop_link-clause-fault : goal.returns-in-Some-pop_link-clause-fault
+returns-in-Some-pop_link-clause-fault g c = endless_explains _ _ _ c.endless.ensures
 
 pub loop-turn-preserved : goal.loop-turn-preserved
 loop-turn-preserved g c =
     let told = g.N.Records.told in
-    let then_on = goes_then told g.N.Records.faults g.N.RecordsMut.has_mark g.N.RecordsMut.marks in
+    let inv = c.loop-turn.invariant in
+    let entry = c.in_ok-entry.entry in
+    let there = subst (λ o. IsRecord o c.in-Some.link.to entry) inv.same c.in_ok-entry.ensures.found in
+    let lead = (c.in-Some.ensures.lead _ inv.lead).0 in
+    let tops = c.in_ok-push_link-3.ensures.tops ∙ ap (with_top entry.first) c.in_ok-push_link-2.ensures.tops in
     record {
-      clears = λ last rest. c.loop-turn.invariant.clears last
-          (cleared-step _ _ _ _ _ _ c.in_ok-entry.entry _ _ last c.in-Some.ensures.some c.in_ok-entry.ensures.found (omega arith)
-          (c.in_ok-push_link-3.ensures ∙ ap (with_top c.in_ok-entry.entry.first) c.in_ok-push_link-2.ensures)
-          (c.in_ok-erase.ensures.ok ∙ ap (option_map (λ m. remove m c.in-Some.link.to)) c.in_ok-entry.ensures.same) rest);
-      discounts = λ last rest. c.loop-turn.invariant.discounts last
-          (discounted-step _ _ _ _ _ _ c.in_ok-entry.entry _ _ _ _ last c.in-Some.ensures.some c.in_ok-entry.ensures.found (omega arith)
-          (c.in_ok-push_link-3.ensures ∙ ap (with_top c.in_ok-entry.entry.first) c.in_ok-push_link-2.ensures)
-          (c.in_ok-erase.ensures.ok ∙ ap (option_map (λ m. remove m c.in-Some.link.to)) c.in_ok-entry.ensures.same) c.in_ok-leave_path.ensures.done rest);
-      same_mark = c.in_ok-leave_path.ensures.same_mark ∙ c.loop-turn.invariant.same_mark;
-      goes_on = then_on _ _ _ (then_on _ _ _ c.loop-turn.invariant.goes_on c.in_ok-entry.ensures.goes_on) c.in_ok-erase.ensures.goes_on;
+      walks = λ rest more. walked-on _ _ _ _ _ _ rest c.in_ok-push_number.ensures
+          (inv.walks _ (walked-step _ _ _ _ _ _ entry _ _ rest c.in-Some.ensures.some c.in_ok-entry.ensures.found (omega arith) tops c.in_ok-entry.ensures.same more));
+      discounts = λ last rest. inv.discounts last
+          (discounted-step _ _ _ _ _ _ entry _ _ _ _ last c.in-Some.ensures.some c.in_ok-entry.ensures.found (omega arith) tops c.in_ok-entry.ensures.same c.in_ok-leave_path.ensures.done rest);
+      lead = c.in_ok-push_link-3.ensures.lead _ (leads-first (told c.args.nodes.now) c.in-Some.link.to entry there entry.first refl) (c.in_ok-push_link-2.ensures.lead _ (leads-right (told c.args.nodes.now) c.in-Some.link.to entry there entry.right refl) lead);
+      gets = omega (arith, inv.gets, c.in_ok-entry.ensures.gets, pushed-length _ _ _ c.in_ok-push_number.ensures);
+      same = c.in_ok-entry.ensures.same ∙ inv.same;
+      same_mark = c.in_ok-leave_path.ensures.same_mark ∙ inv.same_mark;
+      goes_on = goes_then told g.N.Records.faults g.N.RecordsMut.has_mark g.N.RecordsMut.marks _ _ _ inv.goes_on c.in_ok-entry.ensures.goes_on;
     }

@@ -19,8 +19,11 @@ returns-in_ok-key_over-in-Some-clause-grown g c =
 
 pub returns-in_err-top-in-Some-clause-fault : goal.returns-in_err-top-in-Some-clause-fault
 returns-in_err-top-in-Some-clause-fault g c =
-    λ next. err_again c.from_residual.result _ _ c.from_residual.ensures.1 (c.in_err-top-in-Some.ensures.fault next)
+    λ o. err_again c.from_residual.result _ _ c.from_residual.ensures.1 (c.in_err-top-in-Some.ensures.fault o c.args.next (omega arith))
 
 pub returns-in_err-key_over-in-Some-clause-stops : goal.returns-in_err-key_over-in-Some-clause-stops
 returns-in_err-key_over-in-Some-clause-stops g c =
     memory-stops_growing _ _ _ _ _ c.from_residual-in_err-key_over-in-Some.result c.from_residual-in_err-key_over-in-Some.ensures.1
+
+pub returns-in-None-clause-fault : goal.returns-in-None-clause-fault
+returns-in-None-clause-fault g c = λ o. c.grow.ensures.fault o c.args.next (omega arith)

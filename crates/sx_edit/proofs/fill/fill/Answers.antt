@@ -5,7 +5,7 @@ use Rattle.sx_edit.specs.Fill.{enters}
 use Rattle.sx_edit.specs.Pathways.{kept}
 use Rattle.sx_edit.proofs.Results.{err_again}
 use Rattle.sx_edit.proofs.Filling.{IsEntered, down-entering, filled, growing-stops, memory-stops_filling, mending-stops}
-use Rattle.sx_edit.proofs.Stopping.{breach-edit_explains}
+use Rattle.sx_edit.proofs.Answering.{breach-broken, broken-edit}
 use Rattle.sx_edit.proofs.fill.fill.Goals as goal
 
 pub overflow_add-tree : goal.overflow_add-tree
@@ -14,13 +14,18 @@ overflow_add-tree g c = omega (arith, c.requires.room, down-entering _ _ _ _ c.i
 pub returns-in_err-top-clause-stops : goal.returns-in_err-top-clause-stops
 returns-in_err-top-clause-stops g c =
     err_again c.from_residual.result _ _ c.from_residual.ensures.1
-    (growing-stops _ _ _ (enters (option_copied c.args.name) (value_of c.args.value.now) c.args.path c.args.had) (kept (g.N.Records.told c.args.nodes.now) c.args.paths.now.paths) _ c.in_err-top.ensures.stops)
+    (growing-stops _ _ _ _ (enters (option_copied c.args.name) (value_of c.args.value.now) c.args.path c.args.had) (kept (g.N.Records.told c.args.nodes.now) c.args.paths.now.paths) _ c.in_err-top.ensures.stops)
 
 pub returns-in_err-top-clause-fault : goal.returns-in_err-top-clause-fault
-returns-in_err-top-clause-fault g c = err_again c.from_residual.result _ _ c.from_residual.ensures.1 (breach-edit_explains c.args.next _ _ _ (c.in_err-top.ensures.fault c.args.next))
+returns-in_err-top-clause-fault g c = λ o goes rim. err_again c.from_residual.result _ _ c.from_residual.ensures.1 (breach-broken o c.args.next _ (c.in_err-top.ensures.fault o))
+
+pub returns-in_err-mend-clause-fault : goal.returns-in_err-mend-clause-fault
+returns-in_err-mend-clause-fault g c = λ o goes rim.
+    err_again c.from_residual-in_err-mend.result _ _ c.from_residual-in_err-mend.ensures.1
+    (broken-edit o c.args.next _ (c.in_err-mend.ensures.fault o c.args.next (omega (arith, c.requires.room, down-entering _ _ _ _ c.in_ok-top.top c.in_ok-top.ensures.top)) goes rim))
 
 pub returns-in_err-add-clause-stops : goal.returns-in_err-add-clause-stops
-returns-in_err-add-clause-stops g c = memory-stops_filling _ _ _ _ _ c.from_residual-in_err-add.result c.from_residual-in_err-add.ensures.1
+returns-in_err-add-clause-stops g c = memory-stops_filling _ _ _ _ _ _ c.from_residual-in_err-add.result c.from_residual-in_err-add.ensures.1
 
 pub returns-in_err-mend-clause-stops : goal.returns-in_err-mend-clause-stops
 returns-in_err-mend-clause-stops g c =
@@ -34,12 +39,12 @@ returns-in_err-mend-clause-stops g c =
       nodes_are = refl;
       hash = refl;
     } in
-    mending-stops _ _ _ _ _ (kept (g.N.Records.told c.enter.new.nodes) c.enter.new.paths.paths) c.from_residual-in_err-mend.result _ c.from_residual-in_err-mend.ensures.1
-    (λ damaged. filled _ _ _ _ _ c.in_ok-top.top c.link.result _ _ _ _ grown (c.in_err-mend.ensures.cannot damaged))
+    mending-stops _ _ _ _ _ _ (kept (g.N.Records.told c.enter.new.nodes) c.enter.new.paths.paths) c.from_residual-in_err-mend.result _ c.from_residual-in_err-mend.ensures.1
+    (λ damaged. filled _ _ _ _ _ _ c.in_ok-top.top c.link.result _ _ _ _ grown (c.in_err-mend.ensures.cannot c.args.next damaged))
 
 pub returns-clause-done : goal.returns-clause-done
 returns-clause-done g c =
-    filled _ _ _ (enters (option_copied c.args.name) (value_of c.args.value.now) c.args.path c.args.had) _ c.in_ok-top.top c.link.result _ (kept (g.N.Records.told c.enter.new.nodes) c.enter.new.paths.paths) _ _ (record {
+    filled _ _ _ _ (enters (option_copied c.args.name) (value_of c.args.value.now) c.args.path c.args.had) _ c.in_ok-top.top c.link.result _ (kept (g.N.Records.told c.enter.new.nodes) c.enter.new.paths.paths) _ _ (record {
       fits = c.requires.room;
       top_is = c.in_ok-top.ensures.top;
       grown = c.in_ok-top.ensures.grown;
@@ -48,4 +53,4 @@ returns-clause-done g c =
       number = refl;
       nodes_are = refl;
       hash = refl;
-    }) c.in_ok-mend.ensures.done
+    }) (c.in_ok-mend.ensures.done c.args.next)

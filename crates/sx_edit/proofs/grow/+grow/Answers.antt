@@ -1,4 +1,4 @@
-use Rattle.std.proofs.Common.{rules, arith, refl, suc, take, ◌+◌, ◌∙◌}
+use Rattle.std.proofs.Common.{◌≤◌, inr, rules, arith, refl, suc, take, ◌+◌, ◌∙◌}
 use Rattle.sx_tree.specs.Value.{value_of, values_of, fields_of}
 use Rattle.sx_tree.specs.declared.json.Json.{the_lemmas}
 use Rattle.sx_edit.proofs.Going.{goes_itself, goes_then}
@@ -36,6 +36,7 @@ grow_items-loop-place-init g t c =
     record {
       hung = none-hung _ _ _ _ _ made.first made.last made.count made.nodes made.hash;
       same_mark = refl;
+      same_gets = refl;
       goes_on = goes_itself g.N.Records.told g.N.Records.faults g.N.RecordsMut.has_mark g.N.RecordsMut.marks _;
     }
 
@@ -50,6 +51,7 @@ grow_items-loop-place-preserved g t c =
       hung = hung-as _ _ _ _ _ _ _ _ _ _ _ _ done.children (items-turn _ _ _ _ xs _ _ _ _ _ _ _ _ _ _ here c.index-values-place.is (hung-right _ _ _ _ _ _ _ _ _ here c.loop-place.invariant.hung)
           c.in_ok-on.ensures.onto grown.top grown.grown done.children done.added);
       same_mark = grown.same_mark ∙ c.in_ok-on.ensures.same_mark ∙ c.loop-place.invariant.same_mark;
+      same_gets = done.same_gets ∙ grown.same_gets ∙ c.loop-place.invariant.same_gets;
       goes_on = then_on _ _ _ (then_on _ _ _ c.loop-place.invariant.goes_on grown.goes_on) done.goes_on;
     }
 
@@ -59,6 +61,7 @@ grow_members-loop-place-init g t c =
     record {
       hung = none-hung _ _ _ _ _ made.first made.last made.count made.nodes made.hash;
       same_mark = refl;
+      same_gets = refl;
       goes_on = goes_itself g.N.Records.told g.N.Records.faults g.N.RecordsMut.has_mark g.N.RecordsMut.marks _;
     }
 
@@ -109,6 +112,7 @@ grow_members-loop-place-preserved g t c =
           (members-turn _ _ _ _ _ _ _ _ _ _ c.in_ok-key.key _ _ _ _ _ _ _ there (hung-right _ _ _ _ _ _ _ _ _ there.here c.loop-place.invariant.hung)
           (omega arith) (named-onto _ _ _ _ _ _ c.in_ok-step.ensures c.in_ok-on.ensures.onto) grown.top grown.grown over.added over.key done.children done.added));
       same_mark = grown.same_mark ∙ c.in_ok-on.ensures.same_mark ∙ c.loop-place.invariant.same_mark;
+      same_gets = done.same_gets ∙ over.same_gets ∙ grown.same_gets ∙ c.loop-place.invariant.same_gets;
       goes_on = then_on _ _ _ (then_on _ _ _ (then_on _ _ _ c.loop-place.invariant.goes_on grown.goes_on) over.goes_on) done.goes_on;
     }
 
@@ -119,7 +123,7 @@ grow-returns-in_err-count_in-clause-stops g t c =
     uncounted-stops _ _ _ _ _ _ c.from_residual.result _ (omega (arith, nodes-top (value_of c.args.value.now) 0)) c.from_residual.ensures.1 c.in_err-count_in.ensures.cannot
 
 pub grow-returns-in_err-count_in-clause-fault : goal.grow-returns-in_err-count_in-clause-fault
-grow-returns-in_err-count_in-clause-fault g t c = λ next. fault-breach next c.from_residual.result _ c.from_residual.ensures.1 (c.in_err-count_in.ensures.fault next)
+grow-returns-in_err-count_in-clause-fault g t c = λ o next low. fault-breach o next c.from_residual.result _ c.from_residual.ensures.1 (c.in_err-count_in.ensures.fault o next (inr low))
 
 pub grow-returns-in_err-label-in-Scalar-clause-stops : goal.grow-returns-in_err-label-in-Scalar-clause-stops
 grow-returns-in_err-label-in-Scalar-clause-stops g t c = memory-stops_growing _ _ _ _ _ c.from_residual-in_err-label-in-Scalar.result c.from_residual-in_err-label-in-Scalar.ensures.1
@@ -132,11 +136,11 @@ grow-returns-in_err-text-in-Object-clause-stops g t c = memory-stops_growing _ _
 
 pub grow-returns-in_err-below-in-Array-clause-fault : goal.grow-returns-in_err-below-in-Array-clause-fault
 grow-returns-in_err-below-in-Array-clause-fault g t c =
-    λ next. err_again c.from_residual-in_err-below-in-Array.result _ _ c.from_residual-in_err-below-in-Array.ensures.1 (c.in_err-below-in-Array.ensures.fault next)
+    λ o next low. err_again c.from_residual-in_err-below-in-Array.result _ _ c.from_residual-in_err-below-in-Array.ensures.1 (c.in_err-below-in-Array.ensures.fault o next low)
 
 pub grow-returns-in_err-below-in-Object-clause-fault : goal.grow-returns-in_err-below-in-Object-clause-fault
 grow-returns-in_err-below-in-Object-clause-fault g t c =
-    λ next. err_again c.from_residual-in_err-below-in-Object.result _ _ c.from_residual-in_err-below-in-Object.ensures.1 (c.in_err-below-in-Object.ensures.fault next)
+    λ o next low. err_again c.from_residual-in_err-below-in-Object.result _ _ c.from_residual-in_err-below-in-Object.ensures.1 (c.in_err-below-in-Object.ensures.fault o next low)
 
 pub grow-returns-in_err-below-in-Array-clause-stops : goal.grow-returns-in_err-below-in-Array-clause-stops
 grow-returns-in_err-below-in-Array-clause-stops g t c =
@@ -166,7 +170,7 @@ grow_items-returns-in_err-on-clause-stops g t c =
     (onto-stops _ _ _ _ _ _ _ _ _ hung (value_of c.index-values-place.result) _ _ _ _ (items-among _ _ _ _ _ _ _ _ _ c.loop-place-test.true c.index-values-place.is hung) c.in_err-on.ensures.stops)
 
 pub grow_items-returns-in_err-on-clause-fault : goal.grow_items-returns-in_err-on-clause-fault
-grow_items-returns-in_err-on-clause-fault g t c = λ next. err_again c.from_residual.result _ _ c.from_residual.ensures.1 (c.in_err-on.ensures.fault next)
+grow_items-returns-in_err-on-clause-fault g t c = λ o next low. err_again c.from_residual.result _ _ c.from_residual.ensures.1 (c.in_err-on.ensures.fault o next (inr (omega arith)))
 
 pub grow_items-returns-in_err-top-clause-stops : goal.grow_items-returns-in_err-top-clause-stops
 grow_items-returns-in_err-top-clause-stops g t c =
@@ -177,7 +181,7 @@ grow_items-returns-in_err-top-clause-stops g t c =
     (omega (arith, many, size-numbered_values (values_of (take c.loop-place.place c.args.values.now)) (suc c.args.parent))) c.in_ok-on.ensures.onto c.in_err-top.ensures.stops)
 
 pub grow_items-returns-in_err-top-clause-fault : goal.grow_items-returns-in_err-top-clause-fault
-grow_items-returns-in_err-top-clause-fault g t c = λ next. err_again c.from_residual-in_err-top.result _ _ c.from_residual-in_err-top.ensures.1 (c.in_err-top.ensures.fault next)
+grow_items-returns-in_err-top-clause-fault g t c = λ o next low. err_again c.from_residual-in_err-top.result _ _ c.from_residual-in_err-top.ensures.1 (c.in_err-top.ensures.fault o next (omega arith))
 
 pub grow_items-returns-in_err-children-clause-stops : goal.grow_items-returns-in_err-children-clause-stops
 grow_items-returns-in_err-children-clause-stops g t c = memory-stops_growing _ _ _ _ _ c.from_residual-in_err-children.result c.from_residual-in_err-children.ensures.1
@@ -194,7 +198,7 @@ grow_members-returns-in_err-on-clause-stops g t c =
     (named-stops _ _ _ _ _ _ c.in_ok-step.ensures c.in_err-on.ensures.stops))
 
 pub grow_members-returns-in_err-on-clause-fault : goal.grow_members-returns-in_err-on-clause-fault
-grow_members-returns-in_err-on-clause-fault g t c = λ next. err_again c.from_residual-in_err-on.result _ _ c.from_residual-in_err-on.ensures.1 (c.in_err-on.ensures.fault next)
+grow_members-returns-in_err-on-clause-fault g t c = λ o next low. err_again c.from_residual-in_err-on.result _ _ c.from_residual-in_err-on.ensures.1 (c.in_err-on.ensures.fault o next (inr (omega arith)))
 
 pub grow_members-returns-in_err-top-clause-stops : goal.grow_members-returns-in_err-top-clause-stops
 grow_members-returns-in_err-top-clause-stops g t c =
@@ -206,7 +210,7 @@ grow_members-returns-in_err-top-clause-stops g t c =
     (named-onto _ _ _ _ _ _ c.in_ok-step.ensures c.in_ok-on.ensures.onto) c.in_err-top.ensures.stops)
 
 pub grow_members-returns-in_err-top-clause-fault : goal.grow_members-returns-in_err-top-clause-fault
-grow_members-returns-in_err-top-clause-fault g t c = λ next. err_again c.from_residual-in_err-top.result _ _ c.from_residual-in_err-top.ensures.1 (c.in_err-top.ensures.fault next)
+grow_members-returns-in_err-top-clause-fault g t c = λ o next low. err_again c.from_residual-in_err-top.result _ _ c.from_residual-in_err-top.ensures.1 (c.in_err-top.ensures.fault o next (omega arith))
 
 pub grow_members-returns-in_err-key-clause-stops : goal.grow_members-returns-in_err-key-clause-stops
 grow_members-returns-in_err-key-clause-stops g t c = memory-stops_growing _ _ _ _ _ c.from_residual-in_err-key.result c.from_residual-in_err-key.ensures.1

@@ -15,6 +15,7 @@ invariant-grow_items-loop-place g l =
       hung : IsHung (array_node l.parent) l.path (only_if (nat_lt l.place (length l.values)) (l.parent + 1 + l.children.nodes)) l.children
           (numbered_values (values_of (take l.place l.values)) (suc l.parent)) (kept (told l.initial.nodes) l.initial.paths.paths) (kept (told l.nodes) l.paths.paths);
       same_mark : l.paths.marked ≡ l.initial.paths.marked;
+      same_gets : g.N.Records.gets l.nodes ≡ g.N.Records.gets l.initial.nodes;
       goes_on : GoesOn told g.N.Records.faults g.N.RecordsMut.has_mark g.N.RecordsMut.marks l.initial.nodes l.nodes;
     }
 
@@ -25,5 +26,6 @@ invariant-grow_members-loop-place g l =
       hung : IsHung (object_node l.parent) l.path (only_if (nat_lt l.place (length l.members)) (l.parent + 1 + l.children.nodes)) l.children
           (numbered_fields (fields_of (take l.place l.members)) (suc l.parent)) (kept (told l.initial.nodes) l.initial.paths.paths) (kept (told l.nodes) l.paths.paths);
       same_mark : l.paths.marked ≡ l.initial.paths.marked;
+      same_gets : g.N.Records.gets l.nodes ≡ g.N.Records.gets l.initial.nodes;
       goes_on : GoesOn told g.N.Records.faults g.N.RecordsMut.has_mark g.N.RecordsMut.marks l.initial.nodes l.nodes;
     }

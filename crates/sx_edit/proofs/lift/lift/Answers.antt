@@ -1,53 +1,46 @@
-use Rattle.std.proofs.Common.{◌≡◌, ◌+◌, ◌-◌, ◌∙◌, ap, arith}
-use Rattle.std.specs.Prelude.{option_map}
-use Rattle.std.specs.FinMap.{insert}
-use Rattle.sx_edit.specs.Told.{Moment}
-use Rattle.sx_edit.proofs.Results.{err_again}
-use Rattle.sx_edit.proofs.Going.{err-explains, goes_then}
-use Rattle.sx_edit.proofs.Climbing.{IsRaised, lifted-none, lifted-more}
-use Rattle.sx_edit.proofs.Failing.{cannot-deeper, cannot-absent, cannot-count, cannot-above}
+use Rattle.std.proofs.Common.{◌≡◌, ◌+◌, ◌-◌, ◌∙◌, [], arith, refl, rules}
+use Rattle.sx_view.specs.Rows.{row_of}
+use Rattle.sx_edit.proofs.Going.{goes_itself, goes_then}
+use Rattle.sx_edit.proofs.Climbing.{lifted-none, lifted-more}
+use Rattle.sx_edit.proofs.Failing.{cannot-above, cannot-count}
+use Rattle.sx_edit.proofs.Upward.{counted-pop, spent-count, upward-pop}
 use Rattle.sx_edit.proofs.lift.lift.Goals as goal
 
-pub returns-in_default-clause-done : goal.returns-in_default-clause-done
-returns-in_default-clause-done g c = c.loop-turn.invariant.lifts _ (rw c.in_default.is (lifted-none _ _ _ _))
-
-pub returns-in-None-clause-done : goal.returns-in-None-clause-done
-returns-in-None-clause-done g c = c.loop-turn.invariant.lifts _ (rw c.in-None.is (lifted-none _ _ _ _))
-
-pub returns-in_err-record-clause-cannot : goal.returns-in_err-record-clause-cannot
-returns-in_err-record-clause-cannot g c =
-    err_again c.from_residual.result _ _ c.from_residual.ensures.1
-    (λ is. c.loop-turn.invariant.cannot (cannot-absent _ _ _ _ _ _ c.in-Some.is (c.in_err-record.ensures.absent is)))
-
-pub returns-in_err-record-clause-fault : goal.returns-in_err-record-clause-fault
-returns-in_err-record-clause-fault g c =
-    err-explains g.N.Records.told g.N.Records.faults g.N.RecordsMut.has_mark g.N.RecordsMut.marks c.args.next _ c.loop-turn.nodes _ c.from_residual.result _ c.from_residual.ensures.1
-    c.loop-turn.invariant.goes_on (c.in_err-record.ensures.fault c.args.next)
+pub loop-seen-init : goal.loop-seen-init
+loop-seen-init g c = record {
+  lifts = λ last is. is;
+  cannot = λ is. is;
+  counted = λ o all. all;
+  same_gets = refl;
+  goes_on = goes_itself g.N.Records.told g.N.Records.faults g.N.RecordsMut.has_mark g.N.RecordsMut.marks c.args.nodes.now;
+}
 
 pub returns-in_default-fitting-clause-cannot : goal.returns-in_default-fitting-clause-cannot
 returns-in_default-fitting-clause-cannot g c = λ _.
-    c.loop-turn.invariant.cannot
-    (cannot-count _ _ _ _ _ _ c.in_ok-record.record c.in-Some.is c.in_ok-record.ensures.found (λ fits enough. c.in_default-fitting.ensures.none (omega arith) (omega arith)))
+    c.loop-seen.invariant.cannot
+    (cannot-count _ _ _ (row_of c.in-Some.seen.record) _ _ (upward-pop _ _ c.in-Some.seen c.in-Some.ensures.items) (λ enough fits. c.in_default-fitting.ensures.none (omega arith) (omega arith)))
 
-pub returns-in-Some-at-clause-cannot : goal.returns-in-Some-at-clause-cannot
-returns-in-Some-at-clause-cannot g c = λ _. c.loop-turn.invariant.cannot (cannot-deeper _ _ _ _ _ _ c.in-Some-at.is (omega arith))
+pub returns-in_default-fitting-clause-fault : goal.returns-in_default-fitting-clause-fault
+returns-in_default-fitting-clause-fault g c = λ o next few goes all.
+    spent-count o next c.in-Some.seen _ _ _ _ (counted-pop o _ _ c.in-Some.seen c.in-Some.ensures.items (c.loop-seen.invariant.counted o all)).1 few goes (omega arith) c.in_default-fitting.ensures.spent c.misplaced.ensures
 
-pub loop-turn-preserved : goal.loop-turn-preserved
-loop-turn-preserved g c =
-    let told = g.N.Records.told in
-    let gets = g.N.Records.gets in
-    let then_on = goes_then told g.N.Records.faults g.N.RecordsMut.has_mark g.N.RecordsMut.marks in
-    let before : Moment = record { told = told c.loop-turn.nodes; gets = gets c.loop-turn.nodes } in
-    let after : Moment = record { told = told c.write.new.nodes; gets = gets c.write.new.nodes } in
-    let descendants : c.in-Some-fitting.descendants ≡ c.in_ok-record.record.descendants + c.args.shift.plus - c.args.shift.minus = omega (arith, c.in-Some-fitting.ensures.some.0) in
-    let raised : IsRaised c.in-Some.number c.args.shift.plus c.args.shift.minus c.loop-turn.share c.in_ok-record.record _ before after = record {
-      there = c.in_ok-record.ensures.found;
-      changed = cc descendants;
-      put = c.in_ok-write.ensures.ok ∙ ap (option_map (λ m. insert m c.in-Some.number _)) c.in_ok-record.ensures.same;
-      gets = omega arith;
-    } in
+pub returns-in_default-fitting-clause-level : goal.returns-in_default-fitting-clause-level
+returns-in_default-fitting-clause-level g c = λ plus minus. absurd (c.in_default-fitting.ensures.none (omega arith) (omega arith))
+
+pub loop-seen-preserved : goal.loop-seen-preserved
+loop-seen-preserved g c =
+    let seen = c.in-Some.seen in
+    let items = upward-pop _ _ seen c.in-Some.ensures.items in
+    let descendants : c.in-Some-fitting.descendants ≡ seen.record.descendants + c.args.shift.plus - c.args.shift.minus = omega (arith, c.in-Some-fitting.ensures.some.0) in
     record {
-      lifts = λ last rest. c.loop-turn.invariant.lifts last (lifted-more _ _ _ _ _ _ _ before after last c.in-Some.is raised rest);
-      cannot = λ rest. c.loop-turn.invariant.cannot (cannot-above _ _ _ _ _ _ _ _ _ before after c.in-Some.is raised (omega arith) rest);
-      goes_on = then_on _ _ _ (then_on _ _ _ c.loop-turn.invariant.goes_on c.in_ok-record.ensures.goes_on) c.in_ok-write.ensures.goes_on;
+      lifts = λ last rest. c.loop-seen.invariant.lifts last (lifted-more _ _ _ (row_of seen.record) _ _ _ _ _ _ _ last items refl (cc descendants) c.in_ok-write.ensures.ok rest);
+      cannot = λ rest. c.loop-seen.invariant.cannot (cannot-above _ _ _ (row_of seen.record) _ _ items rest);
+      counted = λ o all. (counted-pop o _ _ seen c.in-Some.ensures.items (c.loop-seen.invariant.counted o all)).0;
+      same_gets = c.in_ok-write.ensures.same_gets ∙ c.loop-seen.invariant.same_gets;
+      goes_on = goes_then g.N.Records.told g.N.Records.faults g.N.RecordsMut.has_mark g.N.RecordsMut.marks _ _ _ c.loop-seen.invariant.goes_on c.in_ok-write.ensures.goes_on;
     }
+
+pub returns-clause-done : goal.returns-clause-done
+returns-clause-done g c =
+    let none : c.loop-seen.left.items ≡ [] = search rules in
+    c.loop-seen.invariant.lifts _ (rw none (lifted-none _ _ _ _))

@@ -1,63 +1,35 @@
-use Rattle.std.proofs.Common.{None}
-use Rattle.sx_edit.proofs.Results.{err_again, on_ok-then, if_err-then}
-use Rattle.sx_edit.proofs.Going.{err-explains, goes_then}
-use Rattle.sx_edit.proofs.Siblings.{as_left, as_right, changed-untold}
-use Rattle.sx_edit.proofs.Mending.{adopted-untold, mended-lifted, mended-cannot_lift, mended-stopped, tree-fits}
+use Rattle.std.proofs.Common.{◌≤◌, sym, subst}
+use Rattle.std.specs.Prelude.{◌^◌}
+use Rattle.sx_edit.specs.Damage.{HasTreeOf}
+use Rattle.sx_edit.proofs.Results.{err_again, if_err-then, on_ok-then}
+use Rattle.sx_edit.proofs.Answering.{at-most_broken}
+use Rattle.sx_edit.proofs.Mending.{mended-adopts, mended-cannot_lift, mended-lifted, parent-counted, rim-counted, tree-fits}
+use Rattle.sx_edit.proofs.Siblings.{as_left, as_right}
+use Rattle.sx_edit.proofs.Upward.{counted-push, upward-pop}
 use Rattle.sx_edit.proofs.mend.mend.Goals as goal
 
-pub returns-in_err-link_right-clause-cannot : goal.returns-in_err-link_right-clause-cannot
-returns-in_err-link_right-clause-cannot g c =
-    err_again c.from_residual.result _ _ c.from_residual.ensures.1
-    (λ is. mended-stopped _ _ _ _ _ None None
-    (as_right _ _ _ _ _ c.next_to.ensures.is (c.in_err-link_right.ensures.cannot is))
-    (changed-untold _ _) (adopted-untold _ _ _ _) (tree-fits c.args.old))
+pub returns-in_err-parent-clause-cannot : goal.returns-in_err-parent-clause-cannot
+returns-in_err-parent-clause-cannot g c = λ next. err_again c.from_residual-in_err-parent.result _ _ c.from_residual-in_err-parent.ensures.1 (λ damaged. mended-adopts _ _ _ _ _ _ c.in_err-parent.ensures.cannot)
 
-pub returns-in_err-link_right-clause-fault : goal.returns-in_err-link_right-clause-fault
-returns-in_err-link_right-clause-fault g c = err_again c.from_residual.result _ _ c.from_residual.ensures.1 (c.in_err-link_right.ensures.fault c.args.next)
-
-pub returns-in_err-link_left-clause-cannot : goal.returns-in_err-link_left-clause-cannot
-returns-in_err-link_left-clause-cannot g c =
-    err_again c.from_residual-in_err-link_left.result _ _ c.from_residual-in_err-link_left.ensures.1
-    (λ is. mended-stopped _ _ _ _ _ _ None
-    (as_right _ _ _ _ _ c.next_to.ensures.is c.in_ok-link_right.ensures.done)
-    (as_left _ _ _ _ _ c.next_to-2.ensures.is (c.in_err-link_left.ensures.cannot is))
-    (adopted-untold _ _ _ _) (tree-fits c.args.old))
-
-pub returns-in_err-link_left-clause-fault : goal.returns-in_err-link_left-clause-fault
-returns-in_err-link_left-clause-fault g c =
-    err-explains g.N.Records.told g.N.Records.faults g.N.RecordsMut.has_mark g.N.RecordsMut.marks c.args.next _ _ _ c.from_residual-in_err-link_left.result _ c.from_residual-in_err-link_left.ensures.1
-    c.in_ok-link_right.ensures.goes_on (c.in_err-link_left.ensures.fault c.args.next)
-
-pub returns-in_err-adopt-clause-cannot : goal.returns-in_err-adopt-clause-cannot
-returns-in_err-adopt-clause-cannot g c =
-    err_again c.from_residual-in_err-adopt.result _ _ c.from_residual-in_err-adopt.ensures.1
-    (λ is. mended-stopped _ _ _ _ _ _ _
-    (as_right _ _ _ _ _ c.next_to.ensures.is c.in_ok-link_right.ensures.done)
-    (as_left _ _ _ _ _ c.next_to-2.ensures.is c.in_ok-link_left.ensures.done)
-    (c.in_err-adopt.ensures.cannot is) (tree-fits c.args.old))
-
-pub returns-in_err-adopt-clause-fault : goal.returns-in_err-adopt-clause-fault
-returns-in_err-adopt-clause-fault g c =
-    err-explains g.N.Records.told g.N.Records.faults g.N.RecordsMut.has_mark g.N.RecordsMut.marks c.args.next _ _ _ c.from_residual-in_err-adopt.result _ c.from_residual-in_err-adopt.ensures.1
-    (goes_then g.N.Records.told g.N.Records.faults g.N.RecordsMut.has_mark g.N.RecordsMut.marks _ _ _ c.in_ok-link_right.ensures.goes_on c.in_ok-link_left.ensures.goes_on)
-    (c.in_err-adopt.ensures.fault c.args.next)
-
-pub returns-clause-done : goal.returns-clause-done
-returns-clause-done g c =
-    let told = g.N.Records.told in
-    let gets = g.N.Records.gets in
-    on_ok-then c.lift.result _ _
-    (λ lifted. mended-lifted _ _ _ _ _ _ _ (record { told = told c.adopt.new.nodes; gets = gets c.adopt.new.nodes }) (record { told = told c.lift.new.nodes; gets = gets c.lift.new.nodes })
-    (as_right _ _ _ _ _ c.next_to.ensures.is c.in_ok-link_right.ensures.done)
-    (as_left _ _ _ _ _ c.next_to-2.ensures.is c.in_ok-link_left.ensures.done)
-    c.in_ok-adopt.ensures.done (rw (c.shift_of.ensures.plus, c.shift_of.ensures.minus, c.shift_of.ensures.hash) at lifted) (tree-fits c.args.old))
-    c.lift.ensures.done
+pub returns-in_err-parent-clause-fault : goal.returns-in_err-parent-clause-fault
+returns-in_err-parent-clause-fault g c = λ o next few goes rim.
+    err_again c.from_residual-in_err-parent.result _ _ c.from_residual-in_err-parent.ensures.1 (at-most_broken o next _ (c.in_err-parent.ensures.fault o next rim.above.1))
 
 pub returns-clause-cannot : goal.returns-clause-cannot
-returns-clause-cannot g c =
-    if_err-then c.lift.result _ _
-    (λ fault is damaged. mended-cannot_lift _ _ _ _ _ _ _ _
-    (as_right _ _ _ _ _ c.next_to.ensures.is c.in_ok-link_right.ensures.done)
-    (as_left _ _ _ _ _ c.next_to-2.ensures.is c.in_ok-link_left.ensures.done)
-    c.in_ok-adopt.ensures.done (rw (c.shift_of.ensures.plus, c.shift_of.ensures.minus) at (is damaged)) (tree-fits c.args.old))
-    c.lift.ensures.cannot
+returns-clause-cannot g c = λ next.
+    if_err-then c.lift.result _ _ (λ fault cannot damaged.
+    mended-cannot_lift next _ c.args.rim _ _ _ _ _
+    (as_right _ _ _ _ _ c.next_to.ensures.is c.in_ok-link_right.ensures.done) (as_left _ _ _ _ _ c.next_to-2.ensures.is c.in_ok-link_left.ensures.done) (tree-fits c.args.old)
+    c.in_ok-parent.parent _ c.in_ok-parent.ensures.adopted (upward-pop _ _ c.in_ok-parent.parent c.in_ok-push_seen.ensures) (rw (c.shift_of.ensures.plus, c.shift_of.ensures.minus) at (cannot damaged))) c.lift.ensures.cannot
+
+pub returns-clause-done : goal.returns-clause-done
+returns-clause-done g c = λ next.
+    on_ok-then c.lift.result _ _ (λ done.
+    mended-lifted next _ c.args.rim _ _ _ _ _
+    (as_right _ _ _ _ _ c.next_to.ensures.is c.in_ok-link_right.ensures.done) (as_left _ _ _ _ _ c.next_to-2.ensures.is c.in_ok-link_left.ensures.done) (tree-fits c.args.old)
+    c.in_ok-parent.parent _ _ c.in_ok-parent.ensures.adopted (upward-pop _ _ c.in_ok-parent.parent c.in_ok-push_seen.ensures) (rw (c.shift_of.ensures.plus, c.shift_of.ensures.minus, c.shift_of.ensures.hash) at done)) c.lift.ensures.done
+
+pub returns-clause-fault : goal.returns-clause-fault
+returns-clause-fault g c = λ o next few goes rim.
+    c.lift.ensures.fault o next (subst (λ z. z ≤ 2 ^ 30) (sym c.shift_of.ensures.plus) few) (subst (HasTreeOf o) (sym c.shift_of.ensures.minus) goes)
+    (counted-push o _ _ c.in_ok-parent.parent c.in_ok-push_seen.ensures (rim-counted o _ c.args.rim rim) (parent-counted o _ c.args.rim c.args.old c.args.new c.in_ok-parent.parent c.in_ok-parent.ensures.adopted rim))

@@ -1,8 +1,10 @@
-use Rattle.std.proofs.Common.{◌+◌, ◌-◌, ◌∙◌, subst, arith}
+use Rattle.std.proofs.Common.{◌+◌, ◌-◌, ◌∙◌, inl, refl, subst, arith}
+use Rattle.sx_edit.specs.Damage.{IsRecord}
+use Rattle.sx_edit.specs.Gets.{GetsKeys}
 use Rattle.sx_edit.specs.Names.{FindsKey}
 use Rattle.sx_edit.proofs.Results.{err_again}
-use Rattle.sx_edit.proofs.Going.{err-explains, goes_then}
-use Rattle.sx_edit.proofs.Naming.{finds-none, finds-absent, finds-here, finds-next, finds-endless}
+use Rattle.sx_edit.proofs.Going.{endless_explains, err-explains, goes_then, leads-one, leads-right, reached-parent}
+use Rattle.sx_edit.proofs.Naming.{finds-none, finds-absent, finds-here, finds-next, finds-endless, keys-here, keys-next, keys-none}
 use Rattle.sx_edit.proofs.names.find_key.Goals as goal
 
 pub returns-in_default-clause-found : goal.returns-in_default-clause-found
@@ -22,10 +24,25 @@ returns-in_err-entry-clause-cannot g c =
 pub returns-in_err-entry-clause-fault : goal.returns-in_err-entry-clause-fault
 returns-in_err-entry-clause-fault g c =
     err-explains g.N.Records.told g.N.Records.faults g.N.RecordsMut.has_mark g.N.RecordsMut.marks c.args.next _ c.loop-turn.nodes _ c.from_residual.result _ c.from_residual.ensures.1
-    c.loop-turn.invariant.goes_on (c.in_err-entry.ensures.fault c.args.next)
+    c.loop-turn.invariant.goes_on c.loop-turn.invariant.same (c.in_err-entry.ensures.fault c.args.next)
 
 pub returns-then-is_named-clause-found : goal.returns-then-is_named-clause-found
 returns-then-is_named-clause-found g c = c.loop-turn.invariant.finds _ (finds-here _ _ _ _ _ c.in_ok-entry.entry _ c.in-Some.is c.in_ok-entry.ensures.found (cc))
+
+pub read_linked-requires : goal.read_linked-requires
+read_linked-requires g c = reached-parent _ _ _ _ c.loop-turn.invariant.same (inl (leads-one _ _ _ _ c.in-Some.is c.loop-turn.invariant.lead))
+
+pub returns-in-Some-at-clause-fault : goal.returns-in-Some-at-clause-fault
+returns-in-Some-at-clause-fault g c = endless_explains _ _ _ c.endless.ensures
+
+pub returns-in_default-clause-work : goal.returns-in_default-clause-work
+returns-in_default-clause-work g c = c.loop-turn.invariant.work _ (keys-none _ _ _ _)
+
+pub returns-in-None-clause-work : goal.returns-in-None-clause-work
+returns-in-None-clause-work g c = c.loop-turn.invariant.work _ (keys-none _ _ _ _)
+
+pub returns-then-is_named-clause-work : goal.returns-then-is_named-clause-work
+returns-then-is_named-clause-work g c = c.loop-turn.invariant.work _ (keys-here _ _ _ _ _ _ c.in-Some.is c.in_ok-entry.ensures.gets)
 
 pub loop-turn-preserved : goal.loop-turn-preserved
 loop-turn-preserved g c =
@@ -34,6 +51,9 @@ loop-turn-preserved g c =
       finds = λ answer rest. c.loop-turn.invariant.finds answer
           (finds-next _ _ _ _ _ _ c.in_ok-entry.entry _ answer c.in-Some.is c.in_ok-entry.ensures.found (cc) (omega arith)
           (subst (λ o. FindsKey c.args.except c.args.name.now c.in_ok-entry.entry.right (c.args.next - (c.loop-turn._turn + 1)) o answer) c.in_ok-entry.ensures.same rest));
+      work = λ last rest. c.loop-turn.invariant.work last (keys-next _ _ _ _ c.in_ok-entry.entry _ _ _ last c.in-Some.is c.in_ok-entry.ensures.found (omega arith) c.in_ok-entry.ensures.gets
+          (subst (λ o. GetsKeys c.in_ok-entry.entry.right (c.args.next - (c.loop-turn._turn + 1)) o (g.N.Records.gets c.read_linked.new.nodes) last) c.in_ok-entry.ensures.same rest));
+      lead = leads-right (told c.args.nodes.now) c.in-Some.number c.in_ok-entry.entry (subst (λ o. IsRecord o c.in-Some.number c.in_ok-entry.entry) c.loop-turn.invariant.same c.in_ok-entry.ensures.found) c.in_ok-entry.entry.right refl;
       same = c.in_ok-entry.ensures.same ∙ c.loop-turn.invariant.same;
       goes_on = goes_then told g.N.Records.faults g.N.RecordsMut.has_mark g.N.RecordsMut.marks _ _ _ c.loop-turn.invariant.goes_on c.in_ok-entry.ensures.goes_on;
     }

@@ -1,4 +1,7 @@
 use Rattle.std.proofs.Common.{◌≡◌, ℕ, ◌-◌, Option}
+use Rattle.std.specs.Prelude.{IfSome}
+use Rattle.sx_edit.specs.Damage.{LeadsTo}
+use Rattle.sx_edit.specs.Gets.{GetsKeys}
 use Rattle.sx_edit.specs.Names.{FindsKey}
 use Rattle.sx_edit.specs.Steps.{GoesOn}
 use Rattle.sx_edit.proofs.names.find_key.Given as goal
@@ -10,6 +13,8 @@ invariant-loop-turn g l =
     record {
       finds : (answer : Option (Option ℕ)) → FindsKey l.fn.except l.fn.name l.at (l.fn.next - l._turn) (told l.nodes) answer
           → FindsKey l.fn.except l.fn.name l.fn.first l.fn.next (told l.fn.nodes) answer;
+      work : (last : ℕ) → GetsKeys l.at (l.fn.next - l._turn) (told l.nodes) (g.N.Records.gets l.nodes) last → GetsKeys l.fn.first l.fn.next (told l.fn.nodes) (g.N.Records.gets l.fn.nodes) last;
+      lead : IfSome l.at (λ to. LeadsTo (told l.fn.nodes) l.from to);
       same : told l.nodes ≡ told l.fn.nodes;
       goes_on : GoesOn told g.N.Records.faults g.N.RecordsMut.has_mark g.N.RecordsMut.marks l.fn.nodes l.nodes;
     }

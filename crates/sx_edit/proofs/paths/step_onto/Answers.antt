@@ -1,9 +1,12 @@
 use Rattle.std.proofs.Common.{arith, ap}
-use Rattle.sx_edit.proofs.Pathing.{memory-stops, onto-found, onto-full, onto-large, onto-new, onto-orphan}
+use Rattle.sx_edit.proofs.Pathing.{memory-stops, onto-found, onto-full, onto-large, onto-low, onto-new, onto-orphan}
 use Rattle.sx_edit.proofs.paths.step_onto.Goals as goal
 
 pub returns-then-number-gt-LAST-clause-stops : goal.returns-then-number-gt-LAST-clause-stops
 returns-then-number-gt-LAST-clause-stops c = onto-large _ _ _ _ c.find.ensures _ _ _ c.in-Some.is (omega arith)
+
+pub returns-then-number-parent-clause-stops : goal.returns-then-number-parent-clause-stops
+returns-then-number-parent-clause-stops c = onto-low _ _ _ _ c.find.ensures _ _ _ c.in-Some.is c.if-number-parent.true
 
 pub returns-in-Some-clause-onto : goal.returns-in-Some-clause-onto
 returns-in-Some-clause-onto c = onto-found _ _ _ _ c.find.ensures _ c.in-Some.is

@@ -8,7 +8,7 @@ returns-in_err-count_out-clause-cannot c =
     err_again c.from_residual.result _ _ c.from_residual.ensures.1 (cannot-out _ _ _ _ (sym c.is_value.ensures ∙ c.if-is_value.true) c.in_err-count_out.ensures.cannot)
 
 pub returns-in_err-count_out-clause-fault : goal.returns-in_err-count_out-clause-fault
-returns-in_err-count_out-clause-fault c = λ next. err_again c.from_residual.result _ _ c.from_residual.ensures.1 (c.in_err-count_out.ensures.fault next)
+returns-in_err-count_out-clause-fault c = λ o next needs. err_again c.from_residual.result _ _ c.from_residual.ensures.1 (c.in_err-count_out.ensures.fault o next needs)
 
 pub returns-in_err-count_in-clause-cannot : goal.returns-in_err-count_in-clause-cannot
 returns-in_err-count_in-clause-cannot c =
@@ -16,7 +16,7 @@ returns-in_err-count_in-clause-cannot c =
     (cannot-in _ _ _ _ _ (sym c.is_value.ensures ∙ c.if-is_value.true) c.in_ok-count_out.ensures.done c.in_err-count_in.ensures.cannot)
 
 pub returns-in_err-count_in-clause-fault : goal.returns-in_err-count_in-clause-fault
-returns-in_err-count_in-clause-fault c = λ next. err_again c.from_residual-in_err-count_in.result _ _ c.from_residual-in_err-count_in.ensures.1 (c.in_err-count_in.ensures.fault next)
+returns-in_err-count_in-clause-fault c = λ o next needs. err_again c.from_residual-in_err-count_in.result _ _ c.from_residual-in_err-count_in.ensures.1 (c.in_err-count_in.ensures.fault o next needs)
 
 pub returns-in_ok-count_in-clause-done : goal.returns-in_ok-count_in-clause-done
 returns-in_ok-count_in-clause-done c = exchanged _ _ _ _ _ _ (sym c.is_value.ensures ∙ c.if-is_value.true) c.in_ok-count_out.ensures.done c.in_ok-count_in.ensures.done

@@ -1,18 +1,23 @@
-use Rattle.std.proofs.Common.{◌∙◌, refl, ap, subst, arith}
-use Rattle.sx_edit.specs.Damage.{IsDamaged}
-use Rattle.sx_edit.specs.Repath.{with_goal}
-use Rattle.sx_edit.proofs.Results.{err_again, if_err-then}
-use Rattle.sx_edit.proofs.Going.{goes_then}
+use Rattle.std.proofs.Common.{◌≡◌, [], ◌∙◌, refl, ap, inl, rules, subst, sym, arith}
+use Rattle.sx_edit.specs.Damage.{IsRecord}
+use Rattle.sx_edit.specs.Clear.{with_top}
+use Rattle.sx_edit.specs.Repath.{AllLead, with_goal}
+use Rattle.sx_edit.proofs.Clearing.{walked-end, walked-step}
+use Rattle.sx_edit.proofs.Results.{err_again, if_err-then, pushed-length}
+use Rattle.sx_edit.proofs.Going.{endless_explains, goes_itself, goes_then, leads-first, leads-right, reached-parent}
 use Rattle.sx_edit.proofs.Answering.{err-explains_edit}
 use Rattle.sx_edit.proofs.Stopping.{breach-edit_explains, fault-breach}
-use Rattle.sx_edit.proofs.Repathing.{memory-stops_repathing, put-told, repathed-none, repathed-step, stops-step_on, turn-endless, turn-exchange, turn-fault, turn-memory, turn-under}
+use Rattle.sx_edit.proofs.Repathing.{goal_tops, moved-on, start-moves, start-stops, start-walks, tops-goal, memory-stops_repathing, repathed-end, repathed-on, repathed-step, stops-step_on, turn-endless, turn-exchange, turn-fault, turn-memory, turn-under}
 use Rattle.sx_edit.proofs.repath.repath.Goals as goal
 
 pub returns-in_default-clause-done : goal.returns-in_default-clause-done
-returns-in_default-clause-done g c = c.loop-turn.invariant.moves _ (rw c.in_default.ensures.none (repathed-none _ _))
+returns-in_default-clause-done g c = repathed-end _ _ _ _ _ _ _ c.loop-turn.invariant.moves c.in_default.ensures.none
 
-pub returns-clause-done : goal.returns-clause-done
-returns-clause-done g c = c.loop-turn.invariant.moves _ (rw c.in-None.ensures.none (repathed-none _ _))
+pub returns-in-None-clause-done : goal.returns-in-None-clause-done
+returns-in-None-clause-done g c = repathed-end _ _ _ _ _ _ _ c.loop-turn.invariant.moves c.in-None.ensures.none
+
+pub read_linked-requires : goal.read_linked-requires
+read_linked-requires g c = reached-parent _ _ _ _ c.loop-turn.invariant.same (inl (c.in-Some.ensures.lead _ c.loop-turn.invariant.lead).1)
 
 pub returns-in_err-push_move-clause-stops : goal.returns-in_err-push_move-clause-stops
 returns-in_err-push_move-clause-stops g c = err_again c.from_residual.result _ _ c.from_residual.ensures.1 (memory-stops_repathing _ _ _ _)
@@ -23,54 +28,87 @@ returns-in_err-push_move-2-clause-stops g c = turn-memory _ _ _ _ _ _ _ c.loop-t
 pub returns-in_err-push_move-3-clause-stops : goal.returns-in_err-push_move-3-clause-stops
 returns-in_err-push_move-3-clause-stops g c = turn-memory _ _ _ _ _ _ _ c.loop-turn.invariant.stops c.from_residual-in_err-push_move-3.result c.from_residual-in_err-push_move-3.ensures.1
 
-pub returns-in_err-entry-clause-stops : goal.returns-in_err-entry-clause-stops
-returns-in_err-entry-clause-stops g c =
-    turn-fault _ _ _ _ _ _ _ c.loop-turn.invariant.stops _ _ c.from_residual-in_err-entry.result _ c.in-Some.ensures.some c.from_residual-in_err-entry.ensures.1 c.in_err-entry.ensures.absent
+pub returns-in_err-record-clause-stops : goal.returns-in_err-record-clause-stops
+returns-in_err-record-clause-stops g c =
+    turn-fault _ _ _ _ _ _ _ c.loop-turn.invariant.stops _ _ c.from_residual-in_err-record.result _ c.in-Some.ensures.some c.from_residual-in_err-record.ensures.1 c.in_err-record.ensures.absent
 
-pub returns-in_err-entry-clause-fault : goal.returns-in_err-entry-clause-fault
-returns-in_err-entry-clause-fault g c =
-    err-explains_edit g.N.Records.told g.N.Records.faults g.N.RecordsMut.has_mark g.N.RecordsMut.marks c.args.next _ c.loop-turn.nodes _ c.from_residual-in_err-entry.result _
-    c.from_residual-in_err-entry.ensures.1 c.loop-turn.invariant.goes_on (c.in_err-entry.ensures.fault c.args.next)
+pub returns-in_err-record-clause-fault : goal.returns-in_err-record-clause-fault
+returns-in_err-record-clause-fault g c =
+    err-explains_edit g.N.Records.told g.N.Records.faults g.N.RecordsMut.has_mark g.N.RecordsMut.marks c.args.next _ c.loop-turn.nodes _ c.from_residual-in_err-record.result _
+    c.from_residual-in_err-record.ensures.1 c.loop-turn.invariant.goes_on c.loop-turn.invariant.same (c.in_err-record.ensures.fault c.args.next)
 
 pub returns-in_err-path-clause-stops : goal.returns-in_err-path-clause-stops
 returns-in_err-path-clause-stops g c =
-    turn-under _ _ _ _ _ _ _ c.loop-turn.invariant.stops _ _ _ c.in_ok-entry.entry c.from_residual-in_err-path.result _ c.in-Some.ensures.some c.from_residual-in_err-path.ensures.1 c.in_ok-entry.ensures.found refl c.in_err-path.ensures.stops
+    turn-under _ _ _ _ _ _ _ c.loop-turn.invariant.stops _ _ _ c.in_ok-record.record c.from_residual-in_err-path.result _ c.in-Some.ensures.some c.from_residual-in_err-path.ensures.1 c.in_ok-record.ensures.found refl c.in_err-path.ensures.stops
 
 pub returns-in_err-path-clause-fault : goal.returns-in_err-path-clause-fault
 returns-in_err-path-clause-fault g c =
-    err_again c.from_residual-in_err-path.result _ _ c.from_residual-in_err-path.ensures.1 (breach-edit_explains c.args.next _ _ _ (c.in_err-path.ensures.fault c.args.next))
+    err_again c.from_residual-in_err-path.result _ _ c.from_residual-in_err-path.ensures.1 (breach-edit_explains c.args.next _ _ _ (c.in_err-path.ensures.fault (g.N.Records.told c.args.nodes.now) c.args.next (inl (c.in_ok-record.record, subst (λ o. IsRecord o c.in-Some.at.to c.in_ok-record.record) c.loop-turn.invariant.same c.in_ok-record.ensures.found))))
 
 pub returns-in_err-change_path-clause-stops : goal.returns-in_err-change_path-clause-stops
 returns-in_err-change_path-clause-stops g c =
-    turn-exchange _ _ _ _ _ _ _ c.loop-turn.invariant.stops _ _ _ c.in_ok-entry.entry _ _ c.from_residual-in_err-change_path.result _ c.in-Some.ensures.some c.from_residual-in_err-change_path.ensures.1 c.in_ok-entry.ensures.found refl
+    turn-exchange _ _ _ _ _ _ _ c.loop-turn.invariant.stops _ _ _ c.in_ok-record.record _ _ c.from_residual-in_err-change_path.result _ c.in-Some.ensures.some c.from_residual-in_err-change_path.ensures.1 c.in_ok-record.ensures.found refl
     c.in_ok-path.ensures.under c.in_err-change_path.ensures.cannot
 
 pub returns-in_err-change_path-clause-fault : goal.returns-in_err-change_path-clause-fault
 returns-in_err-change_path-clause-fault g c =
     if_err-then c.from_residual-in_err-change_path.result _ _ (λ e breach. breach-edit_explains c.args.next _ _ e breach)
-    (fault-breach c.args.next c.from_residual-in_err-change_path.result _ c.from_residual-in_err-change_path.ensures.1 (c.in_err-change_path.ensures.fault c.args.next))
+    (fault-breach (g.N.Records.told c.args.nodes.now) c.args.next c.from_residual-in_err-change_path.result _ c.from_residual-in_err-change_path.ensures.1 (c.in_err-change_path.ensures.fault _ c.args.next (inl (c.in_ok-record.record, subst (λ o. IsRecord o c.in-Some.at.to c.in_ok-record.record) c.loop-turn.invariant.same c.in_ok-record.ensures.found))))
 
-pub returns-in_err-write-clause-stops : goal.returns-in_err-write-clause-stops
-returns-in_err-write-clause-stops g c =
-    turn-fault _ _ _ _ _ _ _ c.loop-turn.invariant.stops _ _ c.from_residual-in_err-write.result _ c.in-Some.ensures.some c.from_residual-in_err-write.ensures.1
-    (λ damaged. absurd (subst IsDamaged c.in_err-write.ensures.fault damaged))
+pub returns-in_err-push_seen-clause-stops : goal.returns-in_err-push_seen-clause-stops
+returns-in_err-push_seen-clause-stops g c = turn-memory _ _ _ _ _ _ _ c.loop-turn.invariant.stops c.from_residual-in_err-push_seen.result c.from_residual-in_err-push_seen.ensures.1
 
 pub returns-in-Some-pop_move-clause-stops : goal.returns-in-Some-pop_move-clause-stops
 returns-in-Some-pop_move-clause-stops g c = turn-endless _ _ _ _ _ _ _ c.loop-turn.invariant.stops _ _ _ c.in-Some-pop_move.ensures.some (omega arith)
 
+pub returns-in-Some-pop_move-clause-fault : goal.returns-in-Some-pop_move-clause-fault
+returns-in-Some-pop_move-clause-fault g c = endless_explains _ _ _ c.endless.ensures
+
+pub loop-turn-init : goal.loop-turn-init
+loop-turn-init g c =
+    let goals = c.in_ok-push_move.ensures.goals in
+    let empty : c.new-left.result.items ≡ [] = search rules in
+    let none : c.new-moved.result.items ≡ [] = search rules in
+    record {
+      moves = λ last rest more. start-moves _ _ _ _ _ _ last _ _ _ rest goals empty none (omega arith) more;
+      stops = λ e more. start-stops _ _ _ _ _ _ _ e _ _ goals empty (omega arith) more;
+      walks = λ rest more. start-walks _ _ _ _ _ _ _ _ _ rest goals empty none (omega arith) more;
+      lead = c.in_ok-push_move.ensures.lead _ c.requires (subst (AllLead (g.N.Records.told c.args.nodes.now)) (sym empty) tt);
+      gets = omega arith;
+      same = refl;
+      same_mark = refl;
+      goes_on = goes_itself g.N.Records.told g.N.Records.faults g.N.RecordsMut.has_mark g.N.RecordsMut.marks c.args.nodes.now;
+    }
+
+pub returns-in_default-clause-walked : goal.returns-in_default-clause-walked
+returns-in_default-clause-walked g c = walked-end _ _ _ _ _ _ _ c.loop-turn.invariant.walks (ap goal_tops c.in_default.ensures.none)
+
+pub returns-in-None-clause-walked : goal.returns-in-None-clause-walked
+returns-in-None-clause-walked g c = walked-end _ _ _ _ _ _ _ c.loop-turn.invariant.walks (ap goal_tops c.in-None.ensures.none)
+
 pub loop-turn-preserved : goal.loop-turn-preserved
 loop-turn-preserved g c =
     let told = g.N.Records.told in
-    let then_on = goes_then told g.N.Records.faults g.N.RecordsMut.has_mark g.N.RecordsMut.marks in
+    let inv = c.loop-turn.invariant in
+    let entry = c.in_ok-record.record in
+    let there = subst (λ o. IsRecord o c.in-Some.at.to entry) inv.same c.in_ok-record.ensures.found in
+    let lead = (c.in-Some.ensures.lead _ inv.lead).0 in
+    let goals = c.in_ok-push_move-3.ensures.goals ∙ ap (with_goal entry.kind c.in_ok-path.path entry.first) c.in_ok-push_move-2.ensures.goals in
     record {
-      moves = λ last rest. c.loop-turn.invariant.moves last
-          (repathed-step _ _ _ _ _ _ c.in_ok-entry.entry _ _ _ _ _ _ _ last c.in-Some.ensures.some c.in_ok-entry.ensures.found (omega arith) refl c.in_ok-path.ensures.under c.in_ok-change_path.ensures.done
-          (c.in_ok-push_move-3.ensures ∙ ap (with_goal c.in_ok-entry.entry.kind c.in_ok-path.path c.in_ok-entry.entry.first) c.in_ok-push_move-2.ensures)
-          (put-told _ _ _ _ _ c.in_ok-write.ensures.ok c.in_ok-entry.ensures.same) rest);
-      stops = λ e rest. c.loop-turn.invariant.stops e
-          (stops-step_on _ _ _ _ _ _ c.in_ok-entry.entry _ _ _ _ _ _ _ _ e c.in-Some.ensures.some c.in_ok-entry.ensures.found (omega arith) refl c.in_ok-path.ensures.under c.in_ok-change_path.ensures.done
-          (c.in_ok-push_move-3.ensures ∙ ap (with_goal c.in_ok-entry.entry.kind c.in_ok-path.path c.in_ok-entry.entry.first) c.in_ok-push_move-2.ensures)
-          (put-told _ _ _ _ _ c.in_ok-write.ensures.ok c.in_ok-entry.ensures.same) rest);
-      same_mark = c.in_ok-change_path.ensures.same_mark ∙ c.in_ok-path.ensures.same_mark ∙ c.loop-turn.invariant.same_mark;
-      goes_on = then_on _ _ _ (then_on _ _ _ c.loop-turn.invariant.goes_on c.in_ok-entry.ensures.goes_on) c.in_ok-write.ensures.goes_on;
+      moves = λ last rest more. repathed-on _ _ _ last _ _ _ rest c.in_ok-push_seen.ensures
+          (inv.moves last _
+          (repathed-step _ _ _ _ _ _ entry _ _ _ _ _ _ _ last rest c.in-Some.ensures.some c.in_ok-record.ensures.found (omega arith) refl c.in_ok-path.ensures.under c.in_ok-change_path.ensures.done
+          goals c.in_ok-record.ensures.same more));
+      stops = λ e rest. inv.stops e
+          (stops-step_on _ _ _ _ _ _ entry _ _ _ _ _ _ _ e c.in-Some.ensures.some c.in_ok-record.ensures.found (omega arith) c.in_ok-path.ensures.under c.in_ok-change_path.ensures.done
+          goals c.in_ok-record.ensures.same rest);
+      walks = λ rest more. moved-on _ _ _ _ _ _ rest c.in_ok-push_seen.ensures
+          (inv.walks _ (walked-step _ _ _ _ _ _ entry _ _ rest (ap goal_tops c.in-Some.ensures.some) c.in_ok-record.ensures.found (omega arith)
+          (ap goal_tops goals ∙ tops-goal entry.kind c.in_ok-path.path entry.first _ ∙ ap (with_top entry.first) (tops-goal c.in-Some.at.over.kind c.in-Some.at.over.path entry.right _)) c.in_ok-record.ensures.same more));
+      lead = c.in_ok-push_move-3.ensures.lead _ (leads-first (told c.args.nodes.now) c.in-Some.at.to entry there entry.first refl)
+          (c.in_ok-push_move-2.ensures.lead _ (leads-right (told c.args.nodes.now) c.in-Some.at.to entry there entry.right refl) lead);
+      gets = omega (arith, inv.gets, c.in_ok-record.ensures.gets, pushed-length _ _ _ c.in_ok-push_seen.ensures);
+      same = c.in_ok-record.ensures.same ∙ inv.same;
+      same_mark = c.in_ok-change_path.ensures.same_mark ∙ c.in_ok-path.ensures.same_mark ∙ inv.same_mark;
+      goes_on = goes_then told g.N.Records.faults g.N.RecordsMut.has_mark g.N.RecordsMut.marks _ _ _ inv.goes_on c.in_ok-record.ensures.goes_on;
     }

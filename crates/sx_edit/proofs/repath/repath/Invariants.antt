@@ -1,7 +1,12 @@
-use Rattle.std.proofs.Common.{◌≡◌, ◌-◌}
+use Rattle.std.proofs.Common.{◌≡◌, ℕ, ◌+◌, ◌-◌, ◌≤◌, ◌++◌, List, length}
+use Rattle.sx_model.specs.Records.{NodeRow, PathRow}
 use Rattle.sx_edit.specs.declared.fault.EditFault.{EditFault}
-use Rattle.sx_edit.specs.Pathways.{Kept, kept}
-use Rattle.sx_edit.specs.Repath.{IsRepathed, StopsRepathing, first_goals, goals_of}
+use Rattle.sx_edit.specs.Pathways.{kept}
+use Rattle.sx_edit.specs.Repath.{AllLead, IsRepathed, StopsRepathing, first_goals, goals_of}
+use Rattle.sx_edit.specs.Seen.{entries_of}
+use Rattle.sx_edit.specs.Clear.{first_tops}
+use Rattle.sx_edit.specs.Told.{IsWalked, numbers_of}
+use Rattle.sx_edit.proofs.Repathing.{goal_tops}
 use Rattle.sx_edit.specs.Steps.{GoesOn}
 use Rattle.sx_edit.proofs.repath.repath.Given as goal
 
@@ -10,10 +15,14 @@ abbrev pub invariant-loop-turn : goal.invariant-loop-turn
 invariant-loop-turn g l =
     let told = g.N.Records.told in
     record {
-      moves : (last : Kept) → IsRepathed (goals_of l.left.items) (l.fn.next - l._turn) (kept (told l.nodes) l.paths.paths) last
-          → IsRepathed (first_goals l.fn.over.kind l.fn.over.path l.fn.first) l.fn.next (kept (told l.fn.nodes) l.fn.paths.paths) last;
+      moves : (last : List PathRow) (rest : List (ℕ × NodeRow)) → IsRepathed (goals_of l.left.items) (l.fn.next - l._turn) (kept (told l.nodes) l.paths.paths) last rest
+          → IsRepathed (first_goals l.fn.over.kind l.fn.over.path l.fn.first) l.fn.next (kept (told l.fn.nodes) l.fn.paths.paths) last (entries_of l.moved.items ++ rest);
       stops : (e : EditFault) → StopsRepathing (goals_of l.left.items) (l.fn.next - l._turn) l.fn.had (kept (told l.nodes) l.paths.paths) e
           → StopsRepathing (first_goals l.fn.over.kind l.fn.over.path l.fn.first) l.fn.next l.fn.had (kept (told l.fn.nodes) l.fn.paths.paths) e;
+      walks : (rest : List ℕ) → IsWalked (goal_tops (goals_of l.left.items)) (l.fn.next - l._turn) (told l.nodes) rest → IsWalked (first_tops l.fn.first) l.fn.next (told l.fn.nodes) (numbers_of (entries_of l.moved.items) ++ rest);
+      lead : AllLead (told l.fn.nodes) l.left.items;
+      gets : g.N.Records.gets l.nodes ≤ g.N.Records.gets l.fn.nodes + length l.moved.items;
+      same : told l.nodes ≡ told l.fn.nodes;
       same_mark : l.paths.marked ≡ l.fn.paths.marked;
       goes_on : GoesOn told g.N.Records.faults g.N.RecordsMut.has_mark g.N.RecordsMut.marks l.fn.nodes l.nodes;
     }
