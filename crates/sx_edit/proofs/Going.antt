@@ -1,13 +1,14 @@
 -- One step of an edit after another.
-use Rattle.std.proofs.Common.{◌≡◌, ℕ, Bool, Option, Some, None, inl, inr, refl, sym, subst, ◌∙◌, arith}
+use Rattle.std.proofs.Common.{◌≡◌, ℕ, Bool, List, Option, Some, None, inl, inr, refl, sym, subst, ◌∙◌, arith}
 use Rattle.std.specs.Prelude.{Result, IfErr, IfSome, IsErrAnd}
 use Rattle.sx_bytes.specs.declared.damage.Damage.{Damage}
 use Rattle.sx_tree.specs.declared.record.NodeRecord.{NodeRecord}
+use Rattle.sx_model.specs.Records.{PathRow}
 use Rattle.sx_view.specs.Records.{RecordMap}
 use Rattle.sx_view.specs.declared.fault.Fault.{Fault}
 use Rattle.sx_view.specs.declared.fault.Fault.TheVariants.{Failed, Damaged, OutOfMemory}
 use Rattle.sx_outside.specs.Faults.{Rose}
-use Rattle.sx_edit.specs.Damage.{Explains, IsAbsent, IsBreachFault, IsBrokenFault, IsDamage, IsReached, IsRecord, LeadsTo, broken_link, endless}
+use Rattle.sx_edit.specs.Damage.{Explains, ExplainsBoth, IsAbsent, IsBreachFault, IsBrokenFault, IsDamage, IsNodeDamage, IsReached, IsRecord, LeadsTo, broken_link, endless}
 use Rattle.sx_edit.specs.Seen.{AreReached}
 use Rattle.sx_edit.specs.Steps.{GoesOn}
 use Rattle.sx_edit.specs.declared.trees.Gap.{Gap}
@@ -30,31 +31,41 @@ module _ {V : Type 0} (told : V → Option (RecordMap NodeRecord)) (faults : V �
   pub explains_later : (next : ℕ) (a b c : V) (fault : Fault) → GoesOn told faults has_mark marks a b → told b ≡ told a
       → Explains next (told b) (Rose (faults b) (faults c)) fault → Explains next (told a) (Rose (faults a) (faults c)) fault
   explains_later next a b c Failed first same is = omega (arith, first.never_falls)
-  explains_later next a b c (Damaged d) first same is = subst (λ o. IsDamage next o d) same is
+  explains_later next a b c (Damaged d) first same is = subst (λ o. IsNodeDamage next o d) same is
   explains_later next a b c OutOfMemory first same is = tt
 
   pub err-explains : {A : Type 0} (next : ℕ) (a b c : V) (r : Result A Fault) (fault : Fault) → IsErrAnd r (λ e. e ≡ fault) → GoesOn told faults has_mark marks a b → told b ≡ told a
       → Explains next (told b) (Rose (faults b) (faults c)) fault → IfErr r (Explains next (told a) (Rose (faults a) (faults c)))
   err-explains next a b c r fault is first same holds = err_again r fault _ is (explains_later next a b c fault first same holds)
 
-pub breach_explains : (next : ℕ) (told : Option (RecordMap NodeRecord)) (rose : Type 0) (fault : Fault) → IsBreachFault told next fault → Explains next told rose fault
-breach_explains next told rose Failed is = absurd is
-breach_explains next told rose (Damaged d) is = inr (inr is)
-breach_explains next told rose OutOfMemory is = absurd is
+-- damage of nodes is damage of either
+pub node-damage : (next : ℕ) (told : Option (RecordMap NodeRecord)) (table : List PathRow) (damage : Damage) → IsNodeDamage next told damage → IsDamage next told table damage
+node-damage next told table damage (inl none) = inl none
+node-damage next told table damage (inr broken) = inr (inl broken)
+
+pub nodes-explain : (next : ℕ) (told : Option (RecordMap NodeRecord)) (table : List PathRow) (rose : Type 0) (fault : Fault) → Explains next told rose fault → ExplainsBoth next told table rose fault
+nodes-explain next told table rose Failed is = is
+nodes-explain next told table rose (Damaged d) is = node-damage next told table d is
+nodes-explain next told table rose OutOfMemory is = tt
+
+pub breach_explains : (next : ℕ) (told : Option (RecordMap NodeRecord)) (table : List PathRow) (rose : Type 0) (fault : Fault) → IsBreachFault told table next fault → ExplainsBoth next told table rose fault
+breach_explains next told table rose Failed is = absurd is
+breach_explains next told table rose (Damaged d) is = inr (inr is)
+breach_explains next told table rose OutOfMemory is = absurd is
 
 pub broken_explains : (next : ℕ) (told : Option (RecordMap NodeRecord)) (rose : Type 0) (fault : Fault) → IsBrokenFault told next fault → Explains next told rose fault
 broken_explains next told rose Failed is = absurd is
-broken_explains next told rose (Damaged d) is = inr (inl is)
+broken_explains next told rose (Damaged d) is = inr is
 broken_explains next told rose OutOfMemory is = absurd is
 
 -- links lead on
-pub endless_explains : (next : ℕ) (told : Option (RecordMap NodeRecord)) (damage : Damage) → damage ≡ endless next → IsDamage next told damage
-endless_explains next told damage is = inr (inl (inr (inl is)))
+pub endless_explains : (next : ℕ) (told : Option (RecordMap NodeRecord)) (damage : Damage) → damage ≡ endless next → IsNodeDamage next told damage
+endless_explains next told damage is = inr (inr (inl is))
 
 -- a link leads to no record
-pub lost_link : (next : ℕ) (o : Option (RecordMap NodeRecord)) (from to : ℕ) (damage : Damage) → IsReached o from to → IsAbsent o to → damage ≡ broken_link from to → IsDamage next o damage
+pub lost_link : (next : ℕ) (o : Option (RecordMap NodeRecord)) (from to : ℕ) (damage : Damage) → IsReached o from to → IsAbsent o to → damage ≡ broken_link from to → IsNodeDamage next o damage
 lost_link next None from to damage reached none is = inl refl
-lost_link next (Some m) from to damage (inl leads) none is = inr (inl (inl (from, (to, (leads, none, is)))))
+lost_link next (Some m) from to damage (inl leads) none is = inr (inl (from, (to, (leads, none, is))))
 lost_link next (Some m) from to damage (inr there) none is = absurd (let e : Some there.0 ≡ None = sym (there.1 m refl) ∙ none m refl in cc)
 
 -- what is reached in the same records

@@ -1,6 +1,7 @@
 pub mod Answers
 pub mod Clear
 pub mod Damage
+pub mod Drift
 pub mod EditFault
 pub mod Edited
 pub mod Fill

@@ -10,6 +10,7 @@ use Rattle.sx_model.specs.Tree.{Forest, FitBelow, is_value, size}
 use Rattle.sx_edit.specs.declared.fault.EditFault.{EditFault}
 use Rattle.sx_edit.specs.declared.trees.Move.{Move}
 use Rattle.sx_edit.specs.Damage.{LeadsTo}
+use Rattle.sx_edit.specs.Drift.{IsThere}
 use Rattle.sx_edit.specs.Pathways.{IsPathAt, Kept, Lists, Numbers, Stops, more_on, own_of, paths_under}
 use Rattle.sx_edit.specs.Told.{Shows}
 
@@ -38,6 +39,11 @@ goals_of moves = map (λ m. goal_of m.over.kind m.over.path m.to) (reverse moves
 abbrev pub AllLead : Option (RecordMap NodeRecord) → List Move → Type 0
 AllLead o [] = Unit {0}
 AllLead o (move ∷ moves) = LeadsTo o move.from move.to × AllLead o moves
+
+-- the table has each of the new paths
+abbrev pub AllThere : List PathRow → List Move → Type 0
+AllThere table [] = Unit {0}
+AllThere table (move ∷ moves) = IsThere table move.over.path × AllThere table moves
 
 -- trees side by side, what stands around them, and the new path of the node above
 pub record Branch : Type 0 where

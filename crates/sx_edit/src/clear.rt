@@ -4,7 +4,8 @@ ghost use Rattle.sx_outside.specs.Faults.{Rose};
 ghost use Rattle.sx_tree.specs.declared.record.NodeRecord.{NodeRecord as TheRecord};
 ghost use Rattle.sx_view.specs.Records.{RecordMap};
 ghost use Rattle.sx_edit.specs.Clear.{AllLead, first_tops, tops_of, with_top};
-ghost use Rattle.sx_edit.specs.Damage.{Explains, IsDamaged, LeadsTo};
+ghost use Rattle.sx_edit.specs.Damage.{ExplainsBoth, IsDamaged, LeadsTo};
+ghost use Rattle.sx_edit.specs.Drift.{Drifts};
 ghost use Rattle.sx_edit.specs.Steps.{GoesOn};
 ghost use Rattle.sx_edit.specs.Pathways.{kept};
 ghost use Rattle.sx_edit.specs.Told.{IsDiscounted, IsWalked};
@@ -67,7 +68,9 @@ pub(crate) fn clear<N: RecordsMut<NodeRecord>>(
     ensures same { N.told nodes.new ≡ N.told nodes.old }
     ensures same_mark { paths.new.marked ≡ paths.old.marked }
     ensures goes_on { GoesOn N.told N.faults N.has_mark N.marks nodes.old nodes.new }
-    ensures fault { IfErr result (Explains next (N.told nodes.old) (Rose (N.faults nodes.old) (N.faults nodes.new))) }
+    ensures drifts { OnOk result (Drifts 0 next paths.old.paths paths.new.paths) }
+    ensures fault { IfErr result (ExplainsBoth next (N.told nodes.old) paths.old.paths
+        (Rose (N.faults nodes.old) (N.faults nodes.new))) }
 {
     let mut gone: Vec<u32> = Vec::new(alloc);
     let mut left: Vec<Link> = Vec::new(alloc);

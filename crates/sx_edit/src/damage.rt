@@ -1,8 +1,6 @@
 //! What is told of records that are those of no document.
-ghost use Rattle.std.specs.Prelude.{◌≡◌, ◌^◌, ◌<◌, ℕ, Option};
+ghost use Rattle.std.specs.Prelude.{◌≡◌};
 ghost use Rattle.sx_tree.specs.Record as records;
-ghost use Rattle.sx_tree.specs.declared.record.NodeRecord.{NodeRecord as TheRecord};
-ghost use Rattle.sx_view.specs.Records.{RecordMap};
 ghost use Rattle.sx_edit.specs.Damage as words;
 
 use crate::kinds::kind_byte;
@@ -37,16 +35,6 @@ pub(crate) fn misplaced(node: u32, value: u64) -> Damage
     ensures { result ≡ words.misplaced node value }
 {
     number_damage(0, MISPLACED, u64::from(node), value)
-}
-
-/// The node needs a path of this number, or its values take a count out of its type.
-pub(crate) fn misplaced_path(node: u32, value: u64) -> Damage
-    requires { value < 2 ^ 33 }
-    ensures is { result ≡ words.misplaced node value }
-    ensures breach { (o : Option (RecordMap TheRecord)) (next : ℕ) → words.NeedsPath o next node
-        → words.IsBreach o next result }
-{
-    misplaced(node, value)
 }
 
 /// A node of this kind stands where none can.

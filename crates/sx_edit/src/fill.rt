@@ -1,12 +1,14 @@
 //! Values that come into a gap among siblings.
-ghost use Rattle.std.specs.Prelude.{◌≡◌, ◌+◌, ◌<◌, ◌≤◌, ◌^◌, ℕ, IfErr, IfOk, OnOk, Option};
+ghost use Rattle.std.specs.Prelude.{◌≡◌, ◌+◌, ◌<◌, ◌≤◌, ◌^◌, ℕ, List, IfErr, IfOk, OnOk, Option};
 ghost use Rattle.std.specs.Option.{option_copied};
 ghost use Rattle.sx_tree.specs.declared.record.NodeRecord.{NodeRecord as TheRecord};
+ghost use Rattle.sx_model.specs.Records.{PathRow};
 ghost use Rattle.sx_view.specs.Records.{RecordMap};
 ghost use Rattle.sx_tree.specs.Value as plain;
 ghost use Rattle.sx_tree.specs.Value.{value_of};
 ghost use Rattle.sx_view.specs.Rows.{row_of};
 ghost use Rattle.sx_edit.specs.Damage.{HasTreeOf};
+ghost use Rattle.sx_edit.specs.Drift.{Drifts, IsKnown};
 ghost use Rattle.sx_edit.specs.Mend.{nodes_of_tree};
 ghost use Rattle.sx_edit.specs.EditFault.{IsBreachEdit, IsBrokenEdit};
 ghost use Rattle.sx_edit.specs.Fill.{IsFilled, StopsFilling, entering_below, entering_nodes, entering_paths, entering_rows, entering_top, enters};
@@ -49,7 +51,9 @@ fn enter<N: RecordsMut<NodeRecord>>(
         (kept (N.told nodes.old) paths.old.paths) (kept (N.told nodes.new) paths.new.paths)) }
     ensures stops { IfErr result (StopsGrowing (entering_paths (option_copied name.entry) (value_of value.now) next)
         path (plain.nodes (value_of value.now)) had paths.old.paths) }
-    ensures fault { (o : Option (RecordMap TheRecord)) → IfErr result (IsBreachEdit o next) }
+    ensures fault { (o : Option (RecordMap TheRecord)) (table : List PathRow) (minus : ℕ)
+        → IsKnown o next next paths.old.paths path → Drifts 0 minus table paths.old.paths
+        → IfErr result (IsBreachEdit o table next) }
     ensures same_gets { N.gets nodes.new ≡ N.gets nodes.old }
     ensures same_mark { paths.new.marked ≡ paths.old.marked }
     ensures goes_on { GoesOn N.told N.faults N.has_mark N.marks nodes.old nodes.new }
@@ -95,8 +99,10 @@ pub(crate) fn fill<N: RecordsMut<NodeRecord>>(
     ensures same_mark { paths.new.marked ≡ paths.old.marked }
     ensures goes_on { GoesOn N.told N.faults N.has_mark N.marks nodes.old nodes.new }
     ensures same_gets { N.gets nodes.new ≡ N.gets nodes.old }
-    ensures fault { (o : Option (RecordMap TheRecord)) → HasTreeOf o (nodes_of_tree old) → IsRim o gap rim
-        → IfErr result (IsBrokenEdit o next) }
+    ensures fault { (o : Option (RecordMap TheRecord)) (table : List PathRow) (minus : ℕ)
+        → HasTreeOf o (nodes_of_tree old) → IsRim o gap rim
+        → IsKnown o next next paths.old.paths path → Drifts 0 minus table paths.old.paths
+        → IfErr result (IsBrokenEdit o table next) }
 {
     let top = enter(alloc, nodes, paths, had, next, name, value, path)?;
     let tree = Tree {

@@ -1,14 +1,16 @@
 //! Trees of values, written below their top.
-ghost use Rattle.std.specs.Prelude.{◌≡◌, ◌+◌, ◌<◌, ◌≤◌, ◌^◌, ℕ, None, [], ◌∷◌, suc, true, IfErr, IfOk, OnOk, Option};
+ghost use Rattle.std.specs.Prelude.{◌≡◌, ◌+◌, ◌<◌, ◌≤◌, ◌^◌, ℕ, List, None, [], ◌∷◌, suc, true, IfErr, IfOk, OnOk, Option};
 ghost use Rattle.sx_tree.specs.Record.{IsLink};
 ghost use Rattle.sx_view.specs.Rows.{row_of};
 ghost use Rattle.sx_tree.specs.declared.record.NodeRecord.{NodeRecord as TheRecord};
+ghost use Rattle.sx_model.specs.Records.{PathRow};
 ghost use Rattle.sx_view.specs.Records.{RecordMap};
 ghost use Rattle.sx_tree.specs.Value as plain;
 ghost use Rattle.sx_tree.specs.Value.{value_of, values_of, fields_of, nodes_of_values, nodes_of_fields};
 ghost use Rattle.sx_model.specs.Hash.{local_hash};
 ghost use Rattle.sx_model.specs.Holes.{shown};
 ghost use Rattle.sx_model.specs.Numbered.{numbered_values, numbered_fields};
+ghost use Rattle.sx_edit.specs.Drift.{Drifts, IsKnown, IsThere};
 ghost use Rattle.sx_edit.specs.EditFault.{IsBreachEdit};
 ghost use Rattle.sx_edit.specs.Grow.{IsAdded, IsGrown, IsKept, IsOneMore, IsKeyOver, StopsGrowing, array_node, linked, object_node, only_if};
 ghost use Rattle.sx_edit.specs.Grow.{paths_under_node, rows_under_node, top_of, top_row, trees_below, value_paths};
@@ -126,8 +128,10 @@ pub(crate) fn grow<N: RecordsMut<NodeRecord>>(
         (kept (N.told nodes.old) paths.old.paths) (kept (N.told nodes.new) paths.new.paths)) }
     ensures stops { IfErr result (StopsGrowing (value_paths (value_of value.now) number) path
         (plain.nodes (value_of value.now)) had paths.old.paths) }
-    ensures fault { (o : Option (RecordMap TheRecord)) (next : ℕ) → next ≤ number
-        → IfErr result (IsBreachEdit o next) }
+    ensures drifts { OnOk result (Drifts (plain.nodes (value_of value.now)) 0 paths.old.paths paths.new.paths) }
+    ensures fault { (o : Option (RecordMap TheRecord)) (table : List PathRow) (next plus minus : ℕ)
+        → next ≤ number → IsKnown o next number paths.old.paths path → Drifts plus minus table paths.old.paths
+        → plus + plain.nodes (value_of value.now) ≤ 2 ^ 30 → IfErr result (IsBreachEdit o table next) }
     ensures same_mark { paths.new.marked ≡ paths.old.marked }
     ensures same_gets { N.gets nodes.new ≡ N.gets nodes.old }
     ensures goes_on { GoesOn N.told N.faults N.has_mark N.marks nodes.old nodes.new }
@@ -175,8 +179,10 @@ fn grow_items<N: RecordsMut<NodeRecord>>(
     ensures stops { IfErr result (StopsGrowing
         (paths_under_node (array_node parent) (numbered_values (values_of values.now) (suc parent)))
         path (nodes_of_values (values_of values.now)) had paths.old.paths) }
-    ensures fault { (o : Option (RecordMap TheRecord)) (next : ℕ) → next ≤ parent
-        → IfErr result (IsBreachEdit o next) }
+    ensures drifts { OnOk result (Drifts (nodes_of_values (values_of values.now)) 0 paths.old.paths paths.new.paths) }
+    ensures fault { (o : Option (RecordMap TheRecord)) (table : List PathRow) (next plus minus : ℕ)
+        → next ≤ parent → IsThere paths.old.paths path → Drifts plus minus table paths.old.paths
+        → plus + nodes_of_values (values_of values.now) ≤ 2 ^ 30 → IfErr result (IsBreachEdit o table next) }
     ensures same_mark { paths.new.marked ≡ paths.old.marked }
     ensures same_gets { N.gets nodes.new ≡ N.gets nodes.old }
     ensures goes_on { GoesOn N.told N.faults N.has_mark N.marks nodes.old nodes.new }
@@ -215,8 +221,10 @@ fn grow_members<N: RecordsMut<NodeRecord>>(
     ensures stops { IfErr result (StopsGrowing
         (paths_under_node (object_node parent) (numbered_fields (fields_of members.now) (suc parent)))
         path (nodes_of_fields (fields_of members.now)) had paths.old.paths) }
-    ensures fault { (o : Option (RecordMap TheRecord)) (next : ℕ) → next ≤ parent
-        → IfErr result (IsBreachEdit o next) }
+    ensures drifts { OnOk result (Drifts (nodes_of_fields (fields_of members.now)) 0 paths.old.paths paths.new.paths) }
+    ensures fault { (o : Option (RecordMap TheRecord)) (table : List PathRow) (next plus minus : ℕ)
+        → next ≤ parent → IsThere paths.old.paths path → Drifts plus minus table paths.old.paths
+        → plus + nodes_of_fields (fields_of members.now) ≤ 2 ^ 30 → IfErr result (IsBreachEdit o table next) }
     ensures same_mark { paths.new.marked ≡ paths.old.marked }
     ensures same_gets { N.gets nodes.new ≡ N.gets nodes.old }
     ensures goes_on { GoesOn N.told N.faults N.has_mark N.marks nodes.old nodes.new }

@@ -1,14 +1,16 @@
 //! The paths on which values stand, in the table of paths.
-ghost use Rattle.std.specs.Prelude.{◌≡◌, ◌+◌, ◌<◌, ◌≤◌, ◌-◌, ◌^◌, ℕ, true, false, None, Some, IfErr, IfOk, OnOk, length, min, Option};
+ghost use Rattle.std.specs.Prelude.{◌≡◌, ◌+◌, ◌<◌, ◌≤◌, ◌-◌, ◌^◌, ◌⊎◌, ℕ, List, true, false, None, Some, IfErr, IfOk, OnOk, length, min, Option};
+ghost use Rattle.sx_model.specs.Records.{PathRow};
 ghost use Rattle.sx_paths.specs.Table.{row_at};
 ghost use Rattle.sx_tree.specs.declared.record.NodeRecord.{NodeRecord as TheRecord};
 ghost use Rattle.sx_view.specs.Records.{RecordMap};
 ghost use Rattle.sx_tree.specs.declared.record.Step.TheVariants.{Name};
-ghost use Rattle.sx_edit.specs.Damage.{IsBreachFault, NeedsPath};
+ghost use Rattle.sx_edit.specs.Damage.{IsBreachFault, IsRecord, NeedsPath};
+ghost use Rattle.sx_edit.specs.Drift.{Drifts, IsKnown, IsThere};
 ghost use Rattle.sx_edit.specs.EditFault.{IsBreachEdit};
 ghost use Rattle.sx_edit.specs.Pathways.{CannotCountIn, IsCountedIn, IsCountedOut, IsNodeOut, IsOnto, StopsOnto};
 
-use crate::damage::misplaced_path;
+use crate::damage::misplaced;
 use crate::fault::EditFault;
 use crate::kinds::is_value;
 use std::alloc::{AllocError, Global};
@@ -33,6 +35,7 @@ fn has_room(paths: &PathTable) -> bool
 fn is_base(paths: &PathTable, path: u32) -> bool
     ensures not_top { result ≡ false → path ≡ 0 → ⊥ }
     ensures absent { result ≡ false → row_at paths.now.paths path ≡ None }
+    ensures base { result ≡ true → (path ≡ 0) ⊎ IsThere paths.now.paths path }
 {
     path == 0 || paths.record(path).is_some()
 }
@@ -65,20 +68,23 @@ pub(crate) fn step_onto(
     ensures fits { IfOk result (λ number. number < 2 ^ 30) }
     ensures stops { IfErr result (StopsOnto parent step had paths.old.paths) }
     ensures same_mark { paths.new.marked ≡ paths.old.marked }
-    ensures fault { (o : Option (RecordMap TheRecord)) (next : ℕ) → NeedsPath o next node
-        → IfErr result (IsBreachEdit o next) }
+    ensures there { IfOk result (λ number. IsThere paths.new.paths number) }
+    ensures drifts { OnOk result (Drifts 0 0 paths.old.paths paths.new.paths) }
+    ensures fault { (o : Option (RecordMap TheRecord)) (table : List PathRow) (next plus minus : ℕ)
+        → NeedsPath o next node → (parent ≡ 0) ⊎ IsKnown o next node paths.old.paths parent
+        → Drifts plus minus table paths.old.paths → IfErr result (IsBreachEdit o table next) }
 {
     if let Some(number) = paths.find(parent, &step) {
         if number <= parent {
-            return Err(EditFault::Damaged(misplaced_path(node, u64::from(number))));
+            return Err(EditFault::Damaged(misplaced(node, u64::from(number))));
         }
         if number > LAST {
-            return Err(EditFault::Damaged(misplaced_path(node, u64::from(number))));
+            return Err(EditFault::Damaged(misplaced(node, u64::from(number))));
         }
         return Ok(number);
     }
     if !is_base(paths, parent) {
-        return Err(EditFault::Damaged(misplaced_path(node, u64::from(parent))));
+        return Err(EditFault::Damaged(misplaced(node, u64::from(parent))));
     }
     if !has_room(paths) {
         return Err(EditFault::Refused(EditRefusal::PathsSpent { paths: had }));
@@ -95,15 +101,18 @@ pub(crate) fn count_in(paths: &mut PathTable, node: u32, path: u32) -> Result<()
     ensures done { OnOk result (IsCountedIn path paths.old.paths paths.new.paths) }
     ensures cannot { IfErr result (λ fault. CannotCountIn path paths.old.paths) }
     ensures same_mark { paths.new.marked ≡ paths.old.marked }
-    ensures fault { (o : Option (RecordMap TheRecord)) (next : ℕ) → NeedsPath o next node
-        → IfErr result (IsBreachFault o next) }
+    ensures there { OnOk result (IsThere paths.new.paths path) }
+    ensures drifts { OnOk result (Drifts 1 0 paths.old.paths paths.new.paths) }
+    ensures fault { (o : Option (RecordMap TheRecord)) (table : List PathRow) (next plus minus : ℕ)
+        → NeedsPath o next node → IsKnown o next node paths.old.paths path
+        → Drifts plus minus table paths.old.paths → plus + 1 ≤ 2 ^ 30 → IfErr result (IsBreachFault o table next) }
 {
     let Some(entry) = paths.record(path) else {
-        return Err(Fault::Damaged(misplaced_path(node, u64::from(path))));
+        return Err(Fault::Damaged(misplaced(node, u64::from(path))));
     };
     let count = entry.count;
     if count == u32::MAX {
-        return Err(Fault::Damaged(misplaced_path(node, u64::from(count) + 1)));
+        return Err(Fault::Damaged(misplaced(node, u64::from(count) + 1)));
     }
     paths.count_in(path, 1);
     Ok(())
@@ -118,14 +127,16 @@ pub(crate) fn count_out(paths: &mut PathTable, node: u32, path: u32) -> Result<(
     ensures done { OnOk result (IsCountedOut path paths.old.paths (Some paths.new.paths)) }
     ensures cannot { IfErr result (λ fault. IsCountedOut path paths.old.paths None) }
     ensures same_mark { paths.new.marked ≡ paths.old.marked }
-    ensures fault { (o : Option (RecordMap TheRecord)) (next : ℕ) → NeedsPath o next node
-        → IfErr result (IsBreachFault o next) }
+    ensures drifts { OnOk result (Drifts 0 1 paths.old.paths paths.new.paths) }
+    ensures fault { (o : Option (RecordMap TheRecord)) (table : List PathRow) (next plus minus : ℕ) (own : TheRecord)
+        → IsRecord o node own → own.path ≡ path
+        → Drifts plus minus table paths.old.paths → minus ≤ next → IfErr result (IsBreachFault o table next) }
 {
     let Some(entry) = paths.record(path) else {
-        return Err(Fault::Damaged(misplaced_path(node, u64::from(path))));
+        return Err(Fault::Damaged(misplaced(node, u64::from(path))));
     };
     if entry.count == 0 {
-        return Err(Fault::Damaged(misplaced_path(node, 0)));
+        return Err(Fault::Damaged(misplaced(node, 0)));
     }
     paths.count_out(path, 1);
     Ok(())
@@ -140,8 +151,10 @@ pub(crate) fn leave_path(paths: &mut PathTable, node: u32, entry: &NodeRecord) -
     ensures done { OnOk result (IsNodeOut entry.now.kind entry.now.path paths.old.paths (Some paths.new.paths)) }
     ensures cannot { IfErr result (λ fault. IsNodeOut entry.now.kind entry.now.path paths.old.paths None) }
     ensures same_mark { paths.new.marked ≡ paths.old.marked }
-    ensures fault { (o : Option (RecordMap TheRecord)) (next : ℕ) → NeedsPath o next node
-        → IfErr result (IsBreachFault o next) }
+    ensures drifts { OnOk result (Drifts 0 1 paths.old.paths paths.new.paths) }
+    ensures fault { (o : Option (RecordMap TheRecord)) (table : List PathRow) (next plus minus : ℕ)
+        → IsRecord o node entry.now
+        → Drifts plus minus table paths.old.paths → minus ≤ next → IfErr result (IsBreachFault o table next) }
 {
     if is_value(entry.kind) {
         return count_out(paths, node, entry.path);

@@ -10,6 +10,7 @@ ghost use Rattle.sx_view.specs.Rows.{row_of};
 ghost use Rattle.sx_edit.specs.Grow.{IsAdded};
 ghost use Rattle.sx_edit.specs.Seen.{with_records, without};
 ghost use Rattle.sx_edit.specs.Steps.{GoesOn};
+ghost use Rattle.sx_tree.specs.declared.record.Kind.TheVariants.{Document};
 ghost use Rattle.sx_view.specs.declared.fault.Fault.TheVariants.{OutOfMemory};
 
 use crate::damage::{broken_link, misplaced_kind};
@@ -136,7 +137,7 @@ pub(crate) fn parent_of(node: u32, entry: &NodeRecord) -> Result<u32, Fault>
     ensures parent { IfOk result (λ parent. entry.now.parent ≡ Some parent) }
     ensures none { IfErr result (λ fault. entry.now.parent ≡ None) }
     ensures fault { (o : Option (RecordMap TheRecord)) (next : ℕ) → IsRecord o node entry.now
-        → IfErr result (IsBrokenFault o next) }
+        → (entry.now.kind ≡ Document → ⊥) → IfErr result (IsBrokenFault o next) }
 {
     match entry.parent {
         Some(parent) => Ok(parent),

@@ -6,7 +6,8 @@ ghost use Rattle.sx_edit.specs.Answers.{AnswersEach};
 ghost use Rattle.sx_edit.specs.EditFault.{ExplainsEdit};
 ghost use Rattle.sx_tree.specs.declared.record.NodeRecord.{NodeRecord as TheRecord};
 ghost use Rattle.sx_view.specs.Records.{RecordMap};
-ghost use Rattle.sx_edit.specs.Damage.{Explains, IsBrokenFault, IsDamaged, IsRecord};
+ghost use Rattle.sx_edit.specs.Damage.{ExplainsBoth, IsBrokenFault, IsDamaged, IsRecord};
+ghost use Rattle.sx_edit.specs.Drift.{Drifts};
 ghost use Rattle.sx_edit.specs.Mend.{IsLeftOut, IsUprooted};
 ghost use Rattle.sx_edit.specs.Gets.{GetsAtMost};
 ghost use Rattle.sx_edit.specs.Pathways.{kept};
@@ -64,7 +65,7 @@ pub(crate) fn remove<N: RecordsMut<NodeRecord>>(
         (N.gets nodes.old) (N.gets nodes.new)) }
     ensures same_mark { paths.new.marked ≡ paths.old.marked }
     ensures goes_on { GoesOn N.told N.faults N.has_mark N.marks nodes.old nodes.new }
-    ensures fault { IfErr result (ExplainsEdit next (N.told nodes.old)
+    ensures fault { IfErr result (ExplainsEdit next (N.told nodes.old) paths.old.paths
         (Rose (N.faults nodes.old) (N.faults nodes.new))) }
 {
     let Some(entry) = read(alloc, nodes, node)? else {
@@ -123,7 +124,9 @@ pub(crate) fn uproot<N: RecordsMut<NodeRecord>>(
     ensures same { N.told nodes.new ≡ N.told nodes.old }
     ensures same_mark { paths.new.marked ≡ paths.old.marked }
     ensures goes_on { GoesOn N.told N.faults N.has_mark N.marks nodes.old nodes.new }
-    ensures fault { IfErr result (Explains next (N.told nodes.old) (Rose (N.faults nodes.old) (N.faults nodes.new))) }
+    ensures drifts { OnOk result (Drifts 0 (next + 1) paths.old.paths paths.new.paths) }
+    ensures fault { IfErr result (ExplainsBoth next (N.told nodes.old) paths.old.paths
+        (Rose (N.faults nodes.old) (N.faults nodes.new))) }
 {
     let mut gone = clear(alloc, nodes, paths, next, node, entry.first)?;
     leave_path(paths, node, entry)?;

@@ -1,12 +1,14 @@
 //! Trees that stand on other paths.
-ghost use Rattle.std.specs.Prelude.{◌≡◌, ◌+◌, ◌<◌, ◌≤◌, ◌^◌, ℕ, [], ◌∷◌, None, Some, IfErr, IfNone, IfOk, IfSome, OnOk, Option, length};
+ghost use Rattle.std.specs.Prelude.{◌≡◌, ◌+◌, ◌<◌, ◌≤◌, ◌^◌, ℕ, List, [], ◌∷◌, None, Some, IfErr, IfNone, IfOk, IfSome, OnOk, Option, length};
 ghost use Rattle.sx_outside.specs.Faults.{Rose};
 ghost use Rattle.sx_tree.specs.declared.record.NodeRecord.{NodeRecord as TheRecord};
+ghost use Rattle.sx_model.specs.Records.{PathRow};
 ghost use Rattle.sx_view.specs.Records.{RecordMap};
-ghost use Rattle.sx_edit.specs.Damage.{IsBreachFault, LeadsTo, NeedsPath};
+ghost use Rattle.sx_edit.specs.Damage.{IsBreachFault, IsRecord, LeadsTo, NeedsPath};
+ghost use Rattle.sx_edit.specs.Drift.{Drifts, IsThere};
 ghost use Rattle.sx_edit.specs.EditFault.{ExplainsEdit, IsBreachEdit};
 ghost use Rattle.sx_edit.specs.Pathways.{kept};
-ghost use Rattle.sx_edit.specs.Repath.{AllLead, CannotExchange, IsExchanged, IsRepathed, IsUnder, StopsRepathing, StopsUnder, first_goals, goal_of, goals_of, with_goal};
+ghost use Rattle.sx_edit.specs.Repath.{AllLead, AllThere, CannotExchange, IsExchanged, IsRepathed, IsUnder, StopsRepathing, StopsUnder, first_goals, goal_of, goals_of, with_goal};
 ghost use Rattle.sx_edit.specs.Seen.{entries_of};
 ghost use Rattle.sx_edit.specs.Steps.{GoesOn};
 ghost use Rattle.sx_edit.specs.Clear.{first_tops};
@@ -35,6 +37,8 @@ fn push_move(
         ≡ with_goal over.kind over.path to (goals_of moves.old.items)) }
     ensures lead { (o : Option (RecordMap TheRecord)) → IfSome to (λ to. LeadsTo o from to) → AllLead o moves.old.items
         → OnOk result (AllLead o moves.new.items) }
+    ensures there { (table : List PathRow) → IsThere table over.path → AllThere table moves.old.items
+        → OnOk result (AllThere table moves.new.items) }
 {
     if let Some(to) = to {
         moves.push(Move { over, from, to })?;
@@ -49,6 +53,8 @@ fn pop_move(moves: &mut Vec<Move>) -> Option<Move>
     ensures none { IfNone result (goals_of moves.old.items ≡ []) }
     ensures lead { (o : Option (RecordMap TheRecord)) → AllLead o moves.old.items
         → AllLead o moves.new.items × IfSome result (λ at. LeadsTo o at.from at.to) }
+    ensures there { (table : List PathRow) → AllThere table moves.old.items
+        → AllThere table moves.new.items × IfSome result (λ at. IsThere table at.over.path) }
 {
     moves.pop()
 }
@@ -67,8 +73,11 @@ fn path_under(
     ensures fits { IfOk result (λ number. number < 2 ^ 30) }
     ensures stops { IfErr result (StopsUnder over.kind over.path label.now had paths.old.paths) }
     ensures same_mark { paths.new.marked ≡ paths.old.marked }
-    ensures fault { (o : Option (RecordMap TheRecord)) (next : ℕ) → NeedsPath o next node
-        → IfErr result (IsBreachEdit o next) }
+    ensures there { IsThere paths.old.paths over.path → IfOk result (λ number. IsThere paths.new.paths number) }
+    ensures drifts { OnOk result (Drifts 0 0 paths.old.paths paths.new.paths) }
+    ensures fault { (o : Option (RecordMap TheRecord)) (table : List PathRow) (next plus minus : ℕ)
+        → NeedsPath o next node → IsThere paths.old.paths over.path
+        → Drifts plus minus table paths.old.paths → IfErr result (IsBreachEdit o table next) }
 {
     match over.kind {
         Kind::Document => step_onto(alloc, paths, had, node, 0, Step::Top),
@@ -92,8 +101,11 @@ fn change_path(
     ensures done { OnOk result (IsExchanged kind old new paths.old.paths paths.new.paths) }
     ensures cannot { IfErr result (λ fault. CannotExchange kind old new paths.old.paths) }
     ensures same_mark { paths.new.marked ≡ paths.old.marked }
-    ensures fault { (o : Option (RecordMap TheRecord)) (next : ℕ) → NeedsPath o next node
-        → IfErr result (IsBreachFault o next) }
+    ensures drifts { OnOk result (Drifts 1 1 paths.old.paths paths.new.paths) }
+    ensures fault { (o : Option (RecordMap TheRecord)) (table : List PathRow) (next plus minus : ℕ) (own : TheRecord)
+        → IsRecord o node own → own.path ≡ old → IsThere paths.old.paths new
+        → Drifts plus minus table paths.old.paths → plus + 1 ≤ 2 ^ 30 → minus ≤ next
+        → IfErr result (IsBreachFault o table next) }
 {
     if is_value(kind) {
         count_out(paths, node, old)?;
@@ -130,7 +142,8 @@ pub(crate) fn repath<N: RecordsMut<NodeRecord>>(
     ensures same { N.told nodes.new ≡ N.told nodes.old }
     ensures same_mark { paths.new.marked ≡ paths.old.marked }
     ensures goes_on { GoesOn N.told N.faults N.has_mark N.marks nodes.old nodes.new }
-    ensures fault { IfErr result (ExplainsEdit next (N.told nodes.old)
+    ensures fault { (table : List PathRow) → IsThere paths.old.paths over.path
+        → Drifts 0 0 table paths.old.paths → next ≤ 2 ^ 30 → IfErr result (ExplainsEdit next (N.told nodes.old) table
         (Rose (N.faults nodes.old) (N.faults nodes.new))) }
 {
     let mut moved: Vec<Seen> = Vec::new(alloc);

@@ -11,7 +11,7 @@ returns-clause-answers g c =
 
 pub returns-clause-fault : goal.returns-clause-fault
 returns-clause-fault g c =
-    settled-explains _ _ _ _ _ _ _ c.settle.result c.change-outcome.result (g.met.N.RecordsMut.same_told _ _ c.begin.ensures.same) c.begin.ensures.never_falls c.settle.ensures.never_falls c.settle.ensures.same c.change-outcome.ensures.fault
+    settled-explains _ _ _ _ _ _ _ _ _ c.settle.result c.change-outcome.result (g.met.N.RecordsMut.same_told _ _ c.begin.ensures.same) (ap (λ t. t.paths) c.begin-2.ensures) c.begin.ensures.never_falls c.settle.ensures.never_falls c.settle.ensures.same c.change-outcome.ensures.fault
 
 pub returns-clause-work : goal.returns-clause-work
 returns-clause-work g c =

@@ -1,5 +1,6 @@
 use Rattle.std.proofs.Common.{arith}
 use Rattle.sx_edit.proofs.Results.{err_again}
+use Rattle.sx_edit.proofs.Drifting.{known-new}
 use Rattle.sx_edit.proofs.Growing.{down-top, key-entered, under_key}
 use Rattle.sx_edit.proofs.Stopping.{memory-stops_growing}
 use Rattle.sx_edit.proofs.fill.enter.Goals as goal
@@ -19,11 +20,16 @@ returns-in_ok-key_over-in-Some-clause-grown g c =
 
 pub returns-in_err-top-in-Some-clause-fault : goal.returns-in_err-top-in-Some-clause-fault
 returns-in_err-top-in-Some-clause-fault g c =
-    λ o. err_again c.from_residual.result _ _ c.from_residual.ensures.1 (c.in_err-top-in-Some.ensures.fault o c.args.next (omega arith))
+    λ o table minus known drifts.
+    let fits = rw c.in-Some.is at c.requires.room in
+    err_again c.from_residual.result _ _ c.from_residual.ensures.1
+    (c.in_err-top-in-Some.ensures.fault o table c.args.next 0 minus (omega arith) (known-new o c.args.next c.args.next _ _ _ (omega arith) known) drifts (omega (arith, fits)))
 
 pub returns-in_err-key_over-in-Some-clause-stops : goal.returns-in_err-key_over-in-Some-clause-stops
 returns-in_err-key_over-in-Some-clause-stops g c =
     memory-stops_growing _ _ _ _ _ c.from_residual-in_err-key_over-in-Some.result c.from_residual-in_err-key_over-in-Some.ensures.1
 
 pub returns-in-None-clause-fault : goal.returns-in-None-clause-fault
-returns-in-None-clause-fault g c = λ o. c.grow.ensures.fault o c.args.next (omega arith)
+returns-in-None-clause-fault g c = λ o table minus known drifts.
+    let fits = rw c.in-None.is at c.requires.room in
+    c.grow.ensures.fault o table c.args.next 0 minus (omega arith) known drifts (omega (arith, fits))

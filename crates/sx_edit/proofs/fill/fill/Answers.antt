@@ -17,12 +17,13 @@ returns-in_err-top-clause-stops g c =
     (growing-stops _ _ _ _ (enters (option_copied c.args.name) (value_of c.args.value.now) c.args.path c.args.had) (kept (g.N.Records.told c.args.nodes.now) c.args.paths.now.paths) _ c.in_err-top.ensures.stops)
 
 pub returns-in_err-top-clause-fault : goal.returns-in_err-top-clause-fault
-returns-in_err-top-clause-fault g c = λ o goes rim. err_again c.from_residual.result _ _ c.from_residual.ensures.1 (breach-broken o c.args.next _ (c.in_err-top.ensures.fault o))
+returns-in_err-top-clause-fault g c = λ o table minus goes rim known drifts.
+    err_again c.from_residual.result _ _ c.from_residual.ensures.1 (breach-broken o table c.args.next _ (c.in_err-top.ensures.fault o table minus known drifts))
 
 pub returns-in_err-mend-clause-fault : goal.returns-in_err-mend-clause-fault
-returns-in_err-mend-clause-fault g c = λ o goes rim.
+returns-in_err-mend-clause-fault g c = λ o table minus goes rim known drifts.
     err_again c.from_residual-in_err-mend.result _ _ c.from_residual-in_err-mend.ensures.1
-    (broken-edit o c.args.next _ (c.in_err-mend.ensures.fault o c.args.next (omega (arith, c.requires.room, down-entering _ _ _ _ c.in_ok-top.top c.in_ok-top.ensures.top)) goes rim))
+    (broken-edit o table c.args.next _ (c.in_err-mend.ensures.fault o c.args.next (omega (arith, c.requires.room, down-entering _ _ _ _ c.in_ok-top.top c.in_ok-top.ensures.top)) goes rim))
 
 pub returns-in_err-add-clause-stops : goal.returns-in_err-add-clause-stops
 returns-in_err-add-clause-stops g c = memory-stops_filling _ _ _ _ _ _ c.from_residual-in_err-add.result c.from_residual-in_err-add.ensures.1

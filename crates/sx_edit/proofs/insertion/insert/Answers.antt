@@ -8,6 +8,7 @@ use Rattle.sx_edit.specs.Gets.{GetsChildren}
 use Rattle.sx_edit.proofs.Getting.{insert-gets}
 use Rattle.sx_edit.proofs.Results.{err_again}
 use Rattle.sx_edit.proofs.Splicing.{rim-there}
+use Rattle.sx_edit.proofs.Drifting.{drifts-itself}
 use Rattle.sx_edit.proofs.Stopping.{breach-edit_explains}
 use Rattle.sx_edit.proofs.insertion.insert.Goals as goal
 
@@ -16,8 +17,8 @@ returns-in_err-target-clause-answers g c = insert-unplaced _ _ _ _ _ _ _ _ c.fro
 
 pub returns-in_err-target-clause-fault : goal.returns-in_err-target-clause-fault
 returns-in_err-target-clause-fault g c =
-    again-explains_edit g.N.Records.told g.N.Records.faults g.N.RecordsMut.has_mark g.N.RecordsMut.marks c.args.next c.args.nodes.now c.args.nodes.now _ c.from_residual.result _ c.from_residual.ensures.1
-    (goes_itself g.N.Records.told g.N.Records.faults g.N.RecordsMut.has_mark g.N.RecordsMut.marks c.args.nodes.now) refl c.in_err-target.ensures.fault
+    again-explains_edit g.N.Records.told g.N.Records.faults g.N.RecordsMut.has_mark g.N.RecordsMut.marks c.args.next _ c.args.nodes.now c.args.nodes.now _ c.from_residual.result _ c.from_residual.ensures.1
+    (goes_itself g.N.Records.told g.N.Records.faults g.N.RecordsMut.has_mark g.N.RecordsMut.marks c.args.nodes.now) refl (c.in_err-target.ensures.fault _)
 
 pub returns-in_err-check_children-clause-answers : goal.returns-in_err-check_children-clause-answers
 returns-in_err-check_children-clause-answers g c =
@@ -26,8 +27,8 @@ returns-in_err-check_children-clause-answers g c =
 
 pub returns-in_err-check_children-clause-fault : goal.returns-in_err-check_children-clause-fault
 returns-in_err-check_children-clause-fault g c =
-    again-explains_edit g.N.Records.told g.N.Records.faults g.N.RecordsMut.has_mark g.N.RecordsMut.marks c.args.next c.args.nodes.now _ _ c.from_residual-in_err-check_children.result _ c.from_residual-in_err-check_children.ensures.1
-    c.in_ok-target.ensures.goes_on c.in_ok-target.ensures.same c.in_err-check_children.ensures.fault
+    again-explains_edit g.N.Records.told g.N.Records.faults g.N.RecordsMut.has_mark g.N.RecordsMut.marks c.args.next _ c.args.nodes.now _ _ c.from_residual-in_err-check_children.result _ c.from_residual-in_err-check_children.ensures.1
+    c.in_ok-target.ensures.goes_on c.in_ok-target.ensures.same (c.in_err-check_children.ensures.fault _)
 
 pub check_children-requires : goal.check_children-requires
 check_children-requires g c = leads-there _ _ _ _ c.in_ok-target.ensures.same c.in_ok-target.ensures.first
@@ -42,7 +43,7 @@ returns-in_err-rim-clause-answers g c =
 
 pub returns-in_err-rim-clause-fault : goal.returns-in_err-rim-clause-fault
 returns-in_err-rim-clause-fault g c =
-    err-explains_edit g.N.Records.told g.N.Records.faults g.N.RecordsMut.has_mark g.N.RecordsMut.marks c.args.next c.args.nodes.now _ _ c.from_residual-in_err-rim.result _ c.from_residual-in_err-rim.ensures.1
+    err-explains_edit g.N.Records.told g.N.Records.faults g.N.RecordsMut.has_mark g.N.RecordsMut.marks c.args.next _ c.args.nodes.now _ _ c.from_residual-in_err-rim.result _ c.from_residual-in_err-rim.ensures.1
     (goes_then g.N.Records.told g.N.Records.faults g.N.RecordsMut.has_mark g.N.RecordsMut.marks _ _ _ c.in_ok-target.ensures.goes_on c.in_ok-check_children.ensures.goes_on) (c.in_ok-check_children.ensures.same ∙ c.in_ok-target.ensures.same) c.in_err-rim.ensures.fault
 
 pub returns-in_err-more-clause-answers : goal.returns-in_err-more-clause-answers
@@ -51,7 +52,7 @@ returns-in_err-more-clause-answers g c =
     (checks-there _ _ _ _ _ _ c.in_ok-target.ensures.same c.in_ok-check_children.ensures.checks) (c.in_ok-check_children.ensures.same ∙ c.in_ok-target.ensures.same) (count-below _ _ _ _ c.is_object-in_object.ensures c.new_keys.ensures.is) (c.in_err-more.ensures.room _ _ c.in_ok-rim.ensures.counted)
 
 pub returns-in_err-more-clause-fault : goal.returns-in_err-more-clause-fault
-returns-in_err-more-clause-fault g c = err_again c.from_residual-in_err-more.result _ _ c.from_residual-in_err-more.ensures.1 (refused-explains _ _ _ _ c.in_err-more.ensures.fault)
+returns-in_err-more-clause-fault g c = err_again c.from_residual-in_err-more.result _ _ c.from_residual-in_err-more.ensures.1 (refused-explains _ _ _ _ _ c.in_err-more.ensures.fault)
 
 pub returns-in-Some-clause-answers : goal.returns-in-Some-clause-answers
 returns-in-Some-clause-answers g c =
@@ -72,7 +73,7 @@ returns-in_err-path-clause-answers g c =
 
 pub returns-in_err-path-clause-fault : goal.returns-in_err-path-clause-fault
 returns-in_err-path-clause-fault g c =
-    err_again c.from_residual-in_err-path.result _ _ c.from_residual-in_err-path.ensures.1 (breach-edit_explains c.args.next _ _ _ (c.in_err-path.ensures.fault (g.N.Records.told c.args.nodes.now) c.args.next (inr (omega arith))))
+    err_again c.from_residual-in_err-path.result _ _ c.from_residual-in_err-path.ensures.1 (breach-edit_explains c.args.next _ _ _ _ (c.in_err-path.ensures.fault (g.N.Records.told c.args.nodes.now) c.args.paths.now.paths c.args.next 0 0 (inr (omega arith)) (inr c.in_ok-target.ensures.path) (drifts-itself 0 0 _)))
 
 pub returns-in_err-fill-clause-answers : goal.returns-in_err-fill-clause-answers
 returns-in_err-fill-clause-answers g c =
@@ -92,7 +93,8 @@ returns-clause-answers g c =
     (entering-room c.is_object-in_object.result _ _ _ _ c.new_keys.ensures.is (sym c.name_refusal.ensures ∙ c.in_default.is) c.in_ok-more.ensures.enough)) _ c.in_ok-more.more _ _ c.in_ok-more.ensures.count c.in_ok-path.ensures.onto c.in_ok-fill.ensures.done
 
 pub returns-in_err-fill-clause-fault : goal.returns-in_err-fill-clause-fault
-returns-in_err-fill-clause-fault g c = err_again c.from_residual-in_err-fill.result _ _ c.from_residual-in_err-fill.ensures.1 (broken_edit-explains _ _ _ _ (c.in_err-fill.ensures.fault _ (inl refl) (rim-there _ _ _ _ (c.in_ok-check_children.ensures.same ∙ c.in_ok-target.ensures.same) c.in_ok-rim.ensures.rim)))
+returns-in_err-fill-clause-fault g c = err_again c.from_residual-in_err-fill.result _ _ c.from_residual-in_err-fill.ensures.1 (broken_edit-explains _ _ _ _ _ (c.in_err-fill.ensures.fault _ c.args.paths.now.paths 0 (inl refl) (rim-there _ _ _ _ (c.in_ok-check_children.ensures.same ∙ c.in_ok-target.ensures.same) c.in_ok-rim.ensures.rim)
+    (inl c.in_ok-path.ensures.there) c.in_ok-path.ensures.drifts))
 
 pub returns-clause-work : goal.returns-clause-work
 returns-clause-work g c =

@@ -1,6 +1,7 @@
-use Rattle.std.proofs.Common.{◌∙◌, sym}
+use Rattle.std.proofs.Common.{◌∙◌, refl, sym}
 use Rattle.sx_edit.proofs.Results.{if_err-then, on_ok-then}
 use Rattle.sx_edit.proofs.Pathing.{node-out, node-stays}
+use Rattle.sx_edit.proofs.Drifting.{drifts-itself}
 use Rattle.sx_edit.proofs.paths.leave_path.Goals as goal
 
 pub returns-then-is_value-clause-done : goal.returns-then-is_value-clause-done
@@ -11,3 +12,9 @@ returns-then-is_value-clause-cannot c = if_err-then c.count_out.result _ _ (λ f
 
 pub returns-clause-done : goal.returns-clause-done
 returns-clause-done c = node-stays _ _ _ (sym c.is_value.ensures ∙ c.if-is_value.false)
+
+pub returns-then-is_value-clause-fault : goal.returns-then-is_value-clause-fault
+returns-then-is_value-clause-fault c = λ o table next plus minus there drifts few. c.count_out.ensures.fault o table next plus minus c.args.entry.now there refl drifts few
+
+pub returns-clause-drifts : goal.returns-clause-drifts
+returns-clause-drifts c = drifts-itself 0 1 _

@@ -1,5 +1,6 @@
-use Rattle.std.proofs.Common.{inl, refl, arith}
+use Rattle.std.proofs.Common.{refl, arith}
 use Rattle.sx_edit.proofs.Results.{err_again, pushed-length}
+use Rattle.sx_edit.proofs.Drifting.{drifts-then}
 use Rattle.sx_edit.proofs.Going.{breach_explains, leads-first}
 use Rattle.sx_edit.proofs.Clearing.{left-cannot, left-out, uprooted}
 use Rattle.sx_edit.proofs.removal.uproot.Goals as goal
@@ -27,4 +28,8 @@ returns-in_err-leave_path-clause-cannot g c =
 
 pub returns-in_err-leave_path-clause-fault : goal.returns-in_err-leave_path-clause-fault
 returns-in_err-leave_path-clause-fault g c =
-    err_again c.from_residual-in_err-leave_path.result _ _ c.from_residual-in_err-leave_path.ensures.1 (breach_explains c.args.next _ _ _ (c.in_err-leave_path.ensures.fault (g.N.Records.told c.args.nodes.now) c.args.next (inl (c.args.entry.now, c.requires))))
+    err_again c.from_residual-in_err-leave_path.result _ _ c.from_residual-in_err-leave_path.ensures.1 (breach_explains c.args.next _ _ _ _
+    (c.in_err-leave_path.ensures.fault (g.N.Records.told c.args.nodes.now) _ c.args.next 0 c.args.next c.requires c.in_ok-gone.ensures.drifts (omega arith)))
+
+pub returns-clause-drifts : goal.returns-clause-drifts
+returns-clause-drifts g c = drifts-then 0 c.args.next 0 1 _ _ (omega arith) (omega arith) _ _ _ c.in_ok-gone.ensures.drifts c.in_ok-leave_path.ensures.drifts

@@ -1,8 +1,9 @@
-use Rattle.std.proofs.Common.{refl}
+use Rattle.std.proofs.Common.{inl, inr, refl}
 use Rattle.sx_edit.proofs.Results.{if_err-then, if_ok-then}
 use Rattle.sx_edit.proofs.Growing.{named-onto}
 use Rattle.sx_edit.proofs.Stopping.{named-stops}
 use Rattle.sx_edit.proofs.Repathing.{memory-stops_under, stops-step, stops-top, under-other, under-same, under-step, under-top}
+use Rattle.sx_edit.proofs.Drifting.{drifts-itself}
 use Rattle.sx_edit.proofs.repath.path_under.Goals as goal
 
 pub returns-in_err-step-in-Object-clause-stops : goal.returns-in_err-step-in-Object-clause-stops
@@ -30,3 +31,15 @@ returns-in-Array-clause-stops c = rw c.in-Array.is (if_err-then c.step_onto-in-A
 
 pub returns-in_default-clause-under : goal.returns-in_default-clause-under
 returns-in_default-clause-under c = under-same _ _ _ _ (λ steps. under-other _ steps _ c.in_default.not-Document c.in_default.not-Object c.in_default.not-Array)
+
+pub returns-in-Document-clause-fault : goal.returns-in-Document-clause-fault
+returns-in-Document-clause-fault c = λ o table next plus minus needs there drifts. c.step_onto.ensures.fault o table next plus minus needs (inl refl) drifts
+
+pub returns-in_ok-step-in-Object-clause-fault : goal.returns-in_ok-step-in-Object-clause-fault
+returns-in_ok-step-in-Object-clause-fault c = λ o table next plus minus needs there drifts. c.step_onto-in-Object.ensures.fault o table next plus minus needs (inr (inl there)) drifts
+
+pub returns-in-Array-clause-fault : goal.returns-in-Array-clause-fault
+returns-in-Array-clause-fault c = λ o table next plus minus needs there drifts. c.step_onto-in-Array.ensures.fault o table next plus minus needs (inr (inl there)) drifts
+
+pub returns-in_default-clause-drifts : goal.returns-in_default-clause-drifts
+returns-in_default-clause-drifts c = drifts-itself 0 0 _

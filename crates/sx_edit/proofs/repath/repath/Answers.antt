@@ -1,10 +1,11 @@
 use Rattle.std.proofs.Common.{◌≡◌, [], ◌∙◌, refl, ap, inl, rules, subst, sym, arith}
 use Rattle.sx_edit.specs.Damage.{IsRecord}
 use Rattle.sx_edit.specs.Clear.{with_top}
-use Rattle.sx_edit.specs.Repath.{AllLead, with_goal}
+use Rattle.sx_edit.specs.Repath.{AllLead, AllThere, with_goal}
 use Rattle.sx_edit.proofs.Clearing.{walked-end, walked-step}
 use Rattle.sx_edit.proofs.Results.{err_again, if_err-then, pushed-length}
-use Rattle.sx_edit.proofs.Going.{endless_explains, goes_itself, goes_then, leads-first, leads-right, reached-parent}
+use Rattle.sx_edit.proofs.Going.{endless_explains, goes_itself, goes_then, leads-first, leads-right, node-damage, reached-parent}
+use Rattle.sx_edit.proofs.Drifting.{all_there-on, drifts-itself, drifts-then, there-on}
 use Rattle.sx_edit.proofs.Answering.{err-explains_edit}
 use Rattle.sx_edit.proofs.Stopping.{breach-edit_explains, fault-breach}
 use Rattle.sx_edit.proofs.Repathing.{goal_tops, moved-on, start-moves, start-stops, start-walks, tops-goal, memory-stops_repathing, repathed-end, repathed-on, repathed-step, stops-step_on, turn-endless, turn-exchange, turn-fault, turn-memory, turn-under}
@@ -34,7 +35,7 @@ returns-in_err-record-clause-stops g c =
 
 pub returns-in_err-record-clause-fault : goal.returns-in_err-record-clause-fault
 returns-in_err-record-clause-fault g c =
-    err-explains_edit g.N.Records.told g.N.Records.faults g.N.RecordsMut.has_mark g.N.RecordsMut.marks c.args.next _ c.loop-turn.nodes _ c.from_residual-in_err-record.result _
+    λ table there drifts few. err-explains_edit g.N.Records.told g.N.Records.faults g.N.RecordsMut.has_mark g.N.RecordsMut.marks c.args.next table _ c.loop-turn.nodes _ c.from_residual-in_err-record.result _
     c.from_residual-in_err-record.ensures.1 c.loop-turn.invariant.goes_on c.loop-turn.invariant.same (c.in_err-record.ensures.fault c.args.next)
 
 pub returns-in_err-path-clause-stops : goal.returns-in_err-path-clause-stops
@@ -43,7 +44,12 @@ returns-in_err-path-clause-stops g c =
 
 pub returns-in_err-path-clause-fault : goal.returns-in_err-path-clause-fault
 returns-in_err-path-clause-fault g c =
-    err_again c.from_residual-in_err-path.result _ _ c.from_residual-in_err-path.ensures.1 (breach-edit_explains c.args.next _ _ _ (c.in_err-path.ensures.fault (g.N.Records.told c.args.nodes.now) c.args.next (inl (c.in_ok-record.record, subst (λ o. IsRecord o c.in-Some.at.to c.in_ok-record.record) c.loop-turn.invariant.same c.in_ok-record.ensures.found))))
+    λ table there drifts few.
+    err_again c.from_residual-in_err-path.result _ _ c.from_residual-in_err-path.ensures.1 (breach-edit_explains c.args.next _ table _ _
+    (c.in_err-path.ensures.fault (g.N.Records.told c.args.nodes.now) table c.args.next c.loop-turn._turn c.loop-turn._turn
+    (inl (c.in_ok-record.record, subst (λ o. IsRecord o c.in-Some.at.to c.in_ok-record.record) c.loop-turn.invariant.same c.in_ok-record.ensures.found))
+    (c.in-Some.ensures.there _ (c.loop-turn.invariant.there there)).1
+    (drifts-then 0 0 c.loop-turn._turn c.loop-turn._turn _ _ (omega arith) (omega arith) _ _ _ drifts c.loop-turn.invariant.drifts)))
 
 pub returns-in_err-change_path-clause-stops : goal.returns-in_err-change_path-clause-stops
 returns-in_err-change_path-clause-stops g c =
@@ -52,8 +58,15 @@ returns-in_err-change_path-clause-stops g c =
 
 pub returns-in_err-change_path-clause-fault : goal.returns-in_err-change_path-clause-fault
 returns-in_err-change_path-clause-fault g c =
-    if_err-then c.from_residual-in_err-change_path.result _ _ (λ e breach. breach-edit_explains c.args.next _ _ e breach)
-    (fault-breach (g.N.Records.told c.args.nodes.now) c.args.next c.from_residual-in_err-change_path.result _ c.from_residual-in_err-change_path.ensures.1 (c.in_err-change_path.ensures.fault _ c.args.next (inl (c.in_ok-record.record, subst (λ o. IsRecord o c.in-Some.at.to c.in_ok-record.record) c.loop-turn.invariant.same c.in_ok-record.ensures.found))))
+    λ table there drifts few.
+    if_err-then c.from_residual-in_err-change_path.result _ _ (λ e breach. breach-edit_explains c.args.next _ table _ e breach)
+    (fault-breach (g.N.Records.told c.args.nodes.now) table c.args.next c.from_residual-in_err-change_path.result _ c.from_residual-in_err-change_path.ensures.1
+    (c.in_err-change_path.ensures.fault _ table c.args.next c.loop-turn._turn c.loop-turn._turn c.in_ok-record.record
+    (subst (λ o. IsRecord o c.in-Some.at.to c.in_ok-record.record) c.loop-turn.invariant.same c.in_ok-record.ensures.found) refl
+    (c.in_ok-path.ensures.there (c.in-Some.ensures.there _ (c.loop-turn.invariant.there there)).1)
+    (drifts-then c.loop-turn._turn c.loop-turn._turn 0 0 _ _ (omega arith) (omega arith) _ _ _
+    (drifts-then 0 0 c.loop-turn._turn c.loop-turn._turn _ _ (omega arith) (omega arith) _ _ _ drifts c.loop-turn.invariant.drifts) c.in_ok-path.ensures.drifts)
+    (omega arith) (omega arith)))
 
 pub returns-in_err-push_seen-clause-stops : goal.returns-in_err-push_seen-clause-stops
 returns-in_err-push_seen-clause-stops g c = turn-memory _ _ _ _ _ _ _ c.loop-turn.invariant.stops c.from_residual-in_err-push_seen.result c.from_residual-in_err-push_seen.ensures.1
@@ -62,7 +75,7 @@ pub returns-in-Some-pop_move-clause-stops : goal.returns-in-Some-pop_move-clause
 returns-in-Some-pop_move-clause-stops g c = turn-endless _ _ _ _ _ _ _ c.loop-turn.invariant.stops _ _ _ c.in-Some-pop_move.ensures.some (omega arith)
 
 pub returns-in-Some-pop_move-clause-fault : goal.returns-in-Some-pop_move-clause-fault
-returns-in-Some-pop_move-clause-fault g c = endless_explains _ _ _ c.endless.ensures
+returns-in-Some-pop_move-clause-fault g c = λ table there drifts few. node-damage _ _ _ _ (endless_explains _ _ _ c.endless.ensures)
 
 pub loop-turn-init : goal.loop-turn-init
 loop-turn-init g c =
@@ -74,6 +87,8 @@ loop-turn-init g c =
       stops = λ e more. start-stops _ _ _ _ _ _ _ e _ _ goals empty (omega arith) more;
       walks = λ rest more. start-walks _ _ _ _ _ _ _ _ _ rest goals empty none (omega arith) more;
       lead = c.in_ok-push_move.ensures.lead _ c.requires (subst (AllLead (g.N.Records.told c.args.nodes.now)) (sym empty) tt);
+      drifts = drifts-itself 0 0 _;
+      there = λ there. c.in_ok-push_move.ensures.there _ there (subst (AllThere c.args.paths.now.paths) (sym empty) tt);
       gets = omega arith;
       same = refl;
       same_mark = refl;
@@ -93,6 +108,7 @@ loop-turn-preserved g c =
     let entry = c.in_ok-record.record in
     let there = subst (λ o. IsRecord o c.in-Some.at.to entry) inv.same c.in_ok-record.ensures.found in
     let lead = (c.in-Some.ensures.lead _ inv.lead).0 in
+    let step = drifts-then 0 0 1 1 1 1 (omega arith) (omega arith) _ _ _ c.in_ok-path.ensures.drifts c.in_ok-change_path.ensures.drifts in
     let goals = c.in_ok-push_move-3.ensures.goals ∙ ap (with_goal entry.kind c.in_ok-path.path entry.first) c.in_ok-push_move-2.ensures.goals in
     record {
       moves = λ last rest more. repathed-on _ _ _ last _ _ _ rest c.in_ok-push_seen.ensures
@@ -107,6 +123,11 @@ loop-turn-preserved g c =
           (ap goal_tops goals ∙ tops-goal entry.kind c.in_ok-path.path entry.first _ ∙ ap (with_top entry.first) (tops-goal c.in-Some.at.over.kind c.in-Some.at.over.path entry.right _)) c.in_ok-record.ensures.same more));
       lead = c.in_ok-push_move-3.ensures.lead _ (leads-first (told c.args.nodes.now) c.in-Some.at.to entry there entry.first refl)
           (c.in_ok-push_move-2.ensures.lead _ (leads-right (told c.args.nodes.now) c.in-Some.at.to entry there entry.right refl) lead);
+      drifts = drifts-then c.loop-turn._turn c.loop-turn._turn 1 1 _ _ (omega arith) (omega arith) _ _ _ inv.drifts step;
+      there = λ start.
+          let at = c.in-Some.ensures.there _ (inv.there start) in
+          c.in_ok-push_move-3.ensures.there _ (there-on 1 1 _ _ _ c.in_ok-change_path.ensures.drifts (c.in_ok-path.ensures.there at.1))
+          (c.in_ok-push_move-2.ensures.there _ (there-on 1 1 _ _ _ step at.1) (all_there-on 1 1 _ _ _ step at.0));
       gets = omega (arith, inv.gets, c.in_ok-record.ensures.gets, pushed-length _ _ _ c.in_ok-push_seen.ensures);
       same = c.in_ok-record.ensures.same ∙ inv.same;
       same_mark = c.in_ok-change_path.ensures.same_mark ∙ c.in_ok-path.ensures.same_mark ∙ inv.same_mark;

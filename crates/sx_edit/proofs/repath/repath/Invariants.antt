@@ -2,7 +2,8 @@ use Rattle.std.proofs.Common.{◌≡◌, ℕ, ◌+◌, ◌-◌, ◌≤◌, ◌++
 use Rattle.sx_model.specs.Records.{NodeRow, PathRow}
 use Rattle.sx_edit.specs.declared.fault.EditFault.{EditFault}
 use Rattle.sx_edit.specs.Pathways.{kept}
-use Rattle.sx_edit.specs.Repath.{AllLead, IsRepathed, StopsRepathing, first_goals, goals_of}
+use Rattle.sx_edit.specs.Drift.{Drifts, IsThere}
+use Rattle.sx_edit.specs.Repath.{AllLead, AllThere, IsRepathed, StopsRepathing, first_goals, goals_of}
 use Rattle.sx_edit.specs.Seen.{entries_of}
 use Rattle.sx_edit.specs.Clear.{first_tops}
 use Rattle.sx_edit.specs.Told.{IsWalked, numbers_of}
@@ -21,6 +22,8 @@ invariant-loop-turn g l =
           → StopsRepathing (first_goals l.fn.over.kind l.fn.over.path l.fn.first) l.fn.next l.fn.had (kept (told l.fn.nodes) l.fn.paths.paths) e;
       walks : (rest : List ℕ) → IsWalked (goal_tops (goals_of l.left.items)) (l.fn.next - l._turn) (told l.nodes) rest → IsWalked (first_tops l.fn.first) l.fn.next (told l.fn.nodes) (numbers_of (entries_of l.moved.items) ++ rest);
       lead : AllLead (told l.fn.nodes) l.left.items;
+      drifts : Drifts l._turn l._turn l.fn.paths.paths l.paths.paths;
+      there : IsThere l.fn.paths.paths l.fn.over.path → AllThere l.paths.paths l.left.items;
       gets : g.N.Records.gets l.nodes ≤ g.N.Records.gets l.fn.nodes + length l.moved.items;
       same : told l.nodes ≡ told l.fn.nodes;
       same_mark : l.paths.marked ≡ l.fn.paths.marked;
