@@ -12,12 +12,12 @@ use Rattle.sx_model.specs.Records.{Around, NodeRow, PathRow, around_children, fi
 use Rattle.sx_model.proofs.Holes.{or_none}
 use Rattle.sx_edit.specs.Pathways.{HasAll, IsNodeOut, Kept, Lists, ListsSome, kept, more_on, own_of, own_path, paths_under}
 use Rattle.sx_edit.specs.Told.{Shows, ShowsPieces, Piece, BeginWith, sizes, piece_paths, piece_rows, numbers_of, IsWalked, IsDiscounted}
-use Rattle.sx_edit.specs.Damage.{LeadsTo}
+use Rattle.sx_edit.specs.Links.{LeadsTo, first_tops, with_top}
 use Rattle.sx_edit.specs.Seen.{without}
 use Rattle.std.specs.Option.{option_to_list}
 use Rattle.std.proofs.lemmas.List.{reverse-append}
 use Rattle.sx_edit.specs.declared.clear.Link.{Link}
-use Rattle.sx_edit.specs.Clear.{AllLead, first_tops, tops_of, with_top}
+use Rattle.sx_edit.specs.Clear.{AllLead, tops_of}
 use Rattle.sx_edit.specs.Mend.{IsLeftOut, IsTakenOut, IsUprooted, ShowsBelow}
 use Rattle.sx_edit.proofs.Climbing.{numbers-rows, some_is}
 use Rattle.sx_edit.proofs.Batching.{shows-without, without-last}

@@ -1,13 +1,14 @@
 -- The Document's child in the trees of a state.
-use Rattle.std.proofs.Common.{◌≡◌, ℕ, List, [], Option, Some, None, Result, Ok, Err, refl, sym, ap, subst, ◌∙◌}
+use Rattle.std.proofs.Common.{◌≡◌, ℕ, List, [], Option, Some, None, Result, Ok, Err, inl, refl, sym, ap, subst, ◌∙◌}
 use Rattle.std.specs.Prelude.{option_and_then, option_map}
+use Rattle.std.specs.Option.{unwrap_or}
 use Rattle.std.specs.Option.{ForSome}
 use Rattle.std.specs.FinMap as fin
 use Rattle.sx_tree.specs.declared.edit.Edited.{Edited}
 use Rattle.sx_tree.specs.declared.edit.Place.TheVariants.{Last}
 use Rattle.sx_tree.specs.declared.record.NodeRecord.{NodeRecord}
 use Rattle.sx_tree.specs.declared.record.Step.{Step}
-use Rattle.sx_tree.specs.Value.{Value}
+use Rattle.sx_tree.specs.Value.{Value, nodes}
 use Rattle.sx_view.specs.Records.{RecordMap}
 use Rattle.sx_view.specs.Rows.{row_of}
 use Rattle.sx_model.specs.Edit.{Edit, apply, child_of, first_new, insert, load, load_over, replace}
@@ -18,6 +19,8 @@ use Rattle.sx_model.specs.Tree.{Node, Forest, no_trees, tree_then, IsWellFormed}
 use Rattle.sx_edit.specs.declared.fault.EditFault.{EditFault}
 use Rattle.sx_edit.specs.declared.fault.EditFault.TheVariants.{Refused, Failed, Damaged, OutOfMemory}
 use Rattle.sx_edit.specs.Answers.{AreOf, Answers, AnswersEach}
+use Rattle.sx_edit.specs.Damage.{IsDamageOver, child_of_document, reach_of}
+use Rattle.sx_edit.specs.EditFault.{ExplainsEdit}
 use Rattle.sx_edit.specs.Edited.{rows_in}
 use Rattle.sx_edit.specs.Pathways.{Kept, kept}
 use Rattle.sx_edit.specs.Told.{Holds, Shows}
@@ -81,3 +84,28 @@ module _ (v : Value) (next : ℕ) (o : Option (RecordMap NodeRecord)) (found : O
       let there = none_is (child_of state.trees) (sym (child-is state are) ∙ child) in
       let is_load : apply (insert (Last 0) None v) state ≡ apply (load v) state = ap (λ c. load_over c v state) (sym there) in
       answers-as (insert (Last 0) None v) (load v) state after result is_load refl (answers state (subst (AreOf state next) (sym same) are) of_state)
+
+-- ---- damage
+
+-- an edit with the same reach
+same_reach : (edit other : Edit) (next : ℕ) (o : Option (RecordMap NodeRecord)) (table : List PathRow) (rose : Type 0) (e : EditFault) → (ForSome o (λ m. reach_of edit next o ≡ reach_of other next o)) → ExplainsEdit edit next o table rose e → ExplainsEdit other next o table rose e
+same_reach edit other next o table rose (Refused refusal) same is = tt
+same_reach edit other next o table rose Failed same is = is
+same_reach edit other next None table rose (Damaged d) same is = inl refl
+same_reach edit other next (Some m) table rose (Damaged d) same is = subst (λ reach. IsDamageOver reach (Some m) table d) (same m refl) is
+same_reach edit other next o table rose OutOfMemory same is = tt
+
+-- a load that replaces the child, and one that inserts one
+pub load-as_replace : (v : Value) (next child : ℕ) (found : Option ℕ) (o : Option (RecordMap NodeRecord)) (table : List PathRow) (rose : Type 0) (e : EditFault) → ForSome o (λ m. found ≡ option_and_then (λ r. r.first) (fin.get m 0)) → found ≡ Some child
+    → ExplainsEdit (replace child v) next o table rose e → ExplainsEdit (load v) next o table rose e
+load-as_replace v next child found None table rose e child_is some = same_reach (replace child v) (load v) next None table rose e (λ m none. absurd (let x : None ≡ Some m = none in cc))
+load-as_replace v next child found (Some m) table rose e child_is some =
+    let same : child ≡ child_of_document (Some m) = sym (ap (λ c. unwrap_or c 0) (sym (child_is m refl) ∙ some)) in
+    same_reach (replace child v) (load v) next (Some m) table rose e (λ x is i. record { next = next; more = nodes v; node = same i })
+
+pub load-as_insert : (v : Value) (next : ℕ) (found : Option ℕ) (o : Option (RecordMap NodeRecord)) (table : List PathRow) (rose : Type 0) (e : EditFault) → ForSome o (λ m. found ≡ option_and_then (λ r. r.first) (fin.get m 0)) → found ≡ None
+    → ExplainsEdit (insert (Last 0) None v) next o table rose e → ExplainsEdit (load v) next o table rose e
+load-as_insert v next found None table rose e child_is none = same_reach (insert (Last 0) None v) (load v) next None table rose e (λ m some. absurd (let x : None ≡ Some m = some in cc))
+load-as_insert v next found (Some m) table rose e child_is none =
+    let same : 0 ≡ child_of_document (Some m) = sym (ap (λ c. unwrap_or c 0) (sym (child_is m refl) ∙ none)) in
+    same_reach (insert (Last 0) None v) (load v) next (Some m) table rose e (λ x is i. record { next = next; more = nodes v; node = same i })

@@ -11,7 +11,8 @@ use Rattle.sx_view.specs.declared.fault.Fault.{Fault}
 use Rattle.sx_view.specs.declared.fault.Fault.TheVariants as faults
 use Rattle.sx_view.specs.Records.{RecordMap}
 use Rattle.sx_view.specs.Rows.{row_of}
-use Rattle.sx_model.specs.Edit.{entering}
+use Rattle.sx_tree.specs.declared.edit.Place.{Place}
+use Rattle.sx_model.specs.Edit.{entering, insert}
 use Rattle.sx_model.specs.Hash.{local_hash}
 use Rattle.sx_model.specs.Holes.{Shown, shown, around_hole, rows_before, rows_behind}
 use Rattle.sx_model.specs.Paths.{number_of, path_of, with_paths}
@@ -25,7 +26,7 @@ use Rattle.sx_edit.specs.declared.trees.Rim.{Rim}
 use Rattle.sx_edit.specs.declared.trees.Tree.{Tree}
 use Rattle.sx_edit.specs.declared.fault.EditFault.{EditFault}
 use Rattle.sx_edit.specs.declared.fault.EditFault.TheVariants.{OutOfMemory}
-use Rattle.sx_edit.specs.Damage.{IsDamaged}
+use Rattle.sx_edit.specs.Damage.{IsDamaged, coming}
 use Rattle.sx_edit.specs.EditFault.{edit_fault}
 use Rattle.sx_edit.specs.Fill.{Entering, IsFilled, IsGap, Opening, StandsOn, StopsFilling, entering_below, entering_nodes, entering_paths, entering_rows, entering_top, left_open}
 use Rattle.sx_edit.specs.Grow.{IsAdded, IsGrown, StopsGrowing, child_rows, linked, top_row}
@@ -34,7 +35,7 @@ use Rattle.sx_edit.specs.Mend.{IsMended, opened, shown_tree}
 use Rattle.sx_edit.specs.Told.{AreDistinct, Shows, numbers_of}
 use Rattle.sx_edit.proofs.Adding.{added-before, distinct-known}
 use Rattle.sx_edit.proofs.Climbing.{map-append, numbers-rows}
-use Rattle.sx_edit.proofs.Growing.{nodes-top, numbered-tree, size-numbered, top-number}
+use Rattle.sx_edit.proofs.Growing.{nodes-top, numbered-tree, size-numbered, some-nodes, top-number}
 use Rattle.sx_edit.proofs.Looking.{distinct-same}
 use Rattle.sx_edit.proofs.Pathing.{numbers-back, own-numbers, path-with}
 
@@ -160,6 +161,15 @@ filled next gap rim old new tree top entry o a b after is mended at listed count
 
 pub down-entering : (name : Option (List ℕ)) (v : Value) (next path : ℕ) (top : NodeRecord) → row_of top ≡ top_row path (entering_top name v next) (entering_below name v next) → top.descendants + 1 ≡ entering_nodes name v
 down-entering name v next path top is = omega (arith, ap (λ (w : NodeRow). w.descendants) is, nodes-entering name v next)
+
+-- as many nodes come by an insert as enter
+pub coming-entering : (place : Place) (name : Option (List ℕ)) (v : Value) → coming (insert place name v) ≡ entering_nodes name v
+coming-entering place None v = refl
+coming-entering place (Some name) v = refl
+
+pub some-coming : (place : Place) (name : Option (List ℕ)) (v : Value) → 1 ≤ coming (insert place name v)
+some-coming place None v = some-nodes v
+some-coming place (Some name) v = omega arith
 
 -- ---- what stops it
 

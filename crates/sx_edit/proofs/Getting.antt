@@ -30,7 +30,7 @@ use Rattle.sx_edit.specs.declared.trees.Target.{Target}
 use Rattle.sx_edit.specs.Answers.{AreOf}
 use Rattle.sx_edit.specs.Edited.{rows_in}
 use Rattle.sx_edit.specs.Gets.{GetsAtMost, GetsChildren, GetsKeys, at_spot, gets_at_place, gets_of_tree, keys_among}
-use Rattle.sx_edit.specs.Clear.{first_tops}
+use Rattle.sx_edit.specs.Links.{first_tops}
 use Rattle.sx_edit.specs.Holes.{before_own, behind_own, own_row}
 use Rattle.sx_edit.specs.Mend.{IsUprooted}
 use Rattle.sx_edit.specs.Places.{IsPlace}

@@ -1,6 +1,6 @@
 -- One step of an edit after another.
 use Rattle.std.proofs.Common.{◌≡◌, ℕ, Bool, List, Option, Some, None, inl, inr, refl, sym, subst, ◌∙◌, arith}
-use Rattle.std.specs.Prelude.{Result, IfErr, IfSome, IsErrAnd}
+use Rattle.std.specs.Prelude.{◌⊎◌, Result, IfErr, IfSome, IsErrAnd}
 use Rattle.sx_bytes.specs.declared.damage.Damage.{Damage}
 use Rattle.sx_tree.specs.declared.record.NodeRecord.{NodeRecord}
 use Rattle.sx_model.specs.Records.{PathRow}
@@ -8,7 +8,8 @@ use Rattle.sx_view.specs.Records.{RecordMap}
 use Rattle.sx_view.specs.declared.fault.Fault.{Fault}
 use Rattle.sx_view.specs.declared.fault.Fault.TheVariants.{Failed, Damaged, OutOfMemory}
 use Rattle.sx_outside.specs.Faults.{Rose}
-use Rattle.sx_edit.specs.Damage.{Explains, ExplainsBoth, IsAbsent, IsBreachFault, IsBrokenFault, IsDamage, IsNodeDamage, IsReached, IsRecord, LeadsTo, broken_link, endless}
+use Rattle.sx_edit.specs.Damage.{Explains, ExplainsBoth, IsBreachFault, IsBroken, IsBrokenFault, IsDamageOver, IsEndless, IsNodeDamage, Reach, broken_link, endless, to_parent, to_right}
+use Rattle.sx_edit.specs.Links.{IsAbsent, IsReached, IsRecord, LeadsTo, preorder}
 use Rattle.sx_edit.specs.Seen.{AreReached}
 use Rattle.sx_edit.specs.Steps.{GoesOn}
 use Rattle.sx_edit.specs.declared.trees.Gap.{Gap}
@@ -39,19 +40,19 @@ module _ {V : Type 0} (told : V → Option (RecordMap NodeRecord)) (faults : V �
   err-explains next a b c r fault is first same holds = err_again r fault _ is (explains_later next a b c fault first same holds)
 
 -- damage of nodes is damage of either
-pub node-damage : (next : ℕ) (told : Option (RecordMap NodeRecord)) (table : List PathRow) (damage : Damage) → IsNodeDamage next told damage → IsDamage next told table damage
-node-damage next told table damage (inl none) = inl none
-node-damage next told table damage (inr broken) = inr (inl broken)
+pub node-damage : (reach : Reach) (next : ℕ) (told : Option (RecordMap NodeRecord)) (table : List PathRow) (damage : Damage) → reach.next ≡ next → IsNodeDamage next told damage → IsDamageOver reach told table damage
+node-damage reach next told table damage same (inl none) = inl none
+node-damage reach next told table damage same (inr broken) = inr (inl (subst (λ n. IsBroken told n damage) (sym same) broken))
 
-pub nodes-explain : (next : ℕ) (told : Option (RecordMap NodeRecord)) (table : List PathRow) (rose : Type 0) (fault : Fault) → Explains next told rose fault → ExplainsBoth next told table rose fault
-nodes-explain next told table rose Failed is = is
-nodes-explain next told table rose (Damaged d) is = node-damage next told table d is
-nodes-explain next told table rose OutOfMemory is = tt
+pub nodes-explain : (reach : Reach) (next : ℕ) (told : Option (RecordMap NodeRecord)) (table : List PathRow) (rose : Type 0) (fault : Fault) → reach.next ≡ next → Explains next told rose fault → ExplainsBoth reach told table rose fault
+nodes-explain reach next told table rose Failed same is = is
+nodes-explain reach next told table rose (Damaged d) same is = node-damage reach next told table d same is
+nodes-explain reach next told table rose OutOfMemory same is = tt
 
-pub breach_explains : (next : ℕ) (told : Option (RecordMap NodeRecord)) (table : List PathRow) (rose : Type 0) (fault : Fault) → IsBreachFault told table next fault → ExplainsBoth next told table rose fault
-breach_explains next told table rose Failed is = absurd is
-breach_explains next told table rose (Damaged d) is = inr (inr is)
-breach_explains next told table rose OutOfMemory is = absurd is
+pub breach_explains : (reach : Reach) (told : Option (RecordMap NodeRecord)) (table : List PathRow) (rose : Type 0) (fault : Fault) → IsBreachFault told table reach fault → ExplainsBoth reach told table rose fault
+breach_explains reach told table rose Failed is = absurd is
+breach_explains reach told table rose (Damaged d) is = inr (inr (inr is))
+breach_explains reach told table rose OutOfMemory is = absurd is
 
 pub broken_explains : (next : ℕ) (told : Option (RecordMap NodeRecord)) (rose : Type 0) (fault : Fault) → IsBrokenFault told next fault → Explains next told rose fault
 broken_explains next told rose Failed is = absurd is
@@ -59,8 +60,8 @@ broken_explains next told rose (Damaged d) is = inr is
 broken_explains next told rose OutOfMemory is = absurd is
 
 -- links lead on
-pub endless_explains : (next : ℕ) (told : Option (RecordMap NodeRecord)) (damage : Damage) → damage ≡ endless next → IsNodeDamage next told damage
-endless_explains next told damage is = inr (inr (inl is))
+pub endless_explains : (next : ℕ) (told : Option (RecordMap NodeRecord)) (damage : Damage) → IsEndless preorder told next ⊎ (IsEndless to_right told next ⊎ IsEndless to_parent told next) → damage ≡ endless next → IsNodeDamage next told damage
+endless_explains next told damage walk is = inr (inr (inl (walk, is)))
 
 -- a link leads to no record
 pub lost_link : (next : ℕ) (o : Option (RecordMap NodeRecord)) (from to : ℕ) (damage : Damage) → IsReached o from to → IsAbsent o to → damage ≡ broken_link from to → IsNodeDamage next o damage

@@ -291,6 +291,10 @@ members-room parent path right ms i m kept a b there fits hung_so_far =
       room = omega (arith, down, there.here, members-so_far ms (i + 1), fields-more ms i m there, fits);
     }
 
+-- a value has a node
+pub some-nodes : (v : Value) → 1 ≤ nodes v
+some-nodes v = omega (arith, nodes-top v 0)
+
 -- the nodes below a top
 pub down-top : (v : Value) (n path : ℕ) (w : NodeRow) → w ≡ top_row path (top_of v n) (trees_below v n) → w.descendants + 1 ≡ nodes v
 down-top v n path w is = omega (arith, ap (λ (r : NodeRow). r.descendants) is, nodes-top v n)

@@ -1,6 +1,7 @@
 pub mod Results
 pub mod Going
 pub mod Pathing
+pub mod Visiting
 pub mod Drifting
 mod Finding
 mod Shifts

@@ -12,9 +12,10 @@ use Rattle.sx_model.specs.Records.{NodeRow, at_top, around_children, first_of, l
 use Rattle.sx_model.specs.Holes.{Frame, Shown, join, plug, shown, shown_by, around_hole, frame_row}
 use Rattle.sx_model.proofs.Holes.{shown-beside}
 use Rattle.sx_edit.specs.Holes.{AreNew, IsShift, IsAlike, first_entry, last_entry, rows_above, top_shown, whole}
-use Rattle.sx_edit.specs.Damage.{IsRecord}
-use Rattle.sx_edit.specs.Seen.{AreCounted, IsRim, entry_of, upward}
-use Rattle.sx_edit.proofs.Upward.{IsCounted, counted-above}
+use Rattle.sx_edit.specs.Damage.{Reach}
+use Rattle.sx_edit.specs.Links.{IsRecord}
+use Rattle.sx_edit.specs.Seen.{AreCounted, GoFrom, IsLeaving, IsRim, entry_of, upward}
+use Rattle.sx_edit.proofs.Upward.{IsCounted, counted-above, leaving-goes}
 use Rattle.sx_edit.specs.declared.trees.Rim.{Rim}
 use Rattle.sx_edit.specs.declared.trees.Seen.{Seen}
 use Rattle.sx_edit.specs.Told.{Holds, Shows, IsChanged, IsLifted, CannotLift}
@@ -180,12 +181,24 @@ mended-adopts next gap rim old new o never local number frames frame before olds
     absurd (never (omega (arith, children, trees, deep, few, room, one-tree new)) (omega (arith, children, parts, gone)))
 
 -- what is known of the nodes above the gap
-pub rim-counted : (o : Option (RecordMap NodeRecord)) (gap : Gap) (rim : Rim) → IsRim o gap rim → AreCounted o rim.above.items
-rim-counted o gap rim is = counted-above o rim.parent.record.parent rim.above.items is.above.2
+pub rim-goes : (o : Option (RecordMap NodeRecord)) (reach : Reach) (gap : Gap) (rim : Rim) (old : Option Tree) → IsLeaving o reach gap.parent old → IsRim o gap rim → GoFrom o reach (nodes_of_tree old) rim.parent.node
+rim-goes o reach gap rim old leaving is =
+    let same : gap.parent ≡ rim.parent.node = let e : Some gap.parent ≡ Some rim.parent.node = is.above.0 in cc in
+    subst (GoFrom o reach (nodes_of_tree old)) same (leaving-goes o reach gap.parent old leaving)
 
-pub parent-counted : (o : Option (RecordMap NodeRecord)) (gap : Gap) (rim : Rim) (old new : Option Tree) (parent : Seen) → entry_of parent ≡ (rim.parent.node, adopted gap old new (row_of rim.parent.record)) → IsRim o gap rim → IsCounted o parent
-parent-counted o gap rim old new parent is rimmed =
-    (rim.parent.record, (subst (λ k. IsRecord o k rim.parent.record) (sym (ap (λ (x : ℕ × NodeRow). x.0) is)) rimmed.above.1, sym (ap (λ (x : ℕ × NodeRow). x.1.descendants) is)))
+pub rim-leaves : (o : Option (RecordMap NodeRecord)) (reach : Reach) (gap : Gap) (rim : Rim) (old : Option Tree) → IsLeaving o reach gap.parent old → IsRim o gap rim → IsLeaving o reach rim.parent.node old
+rim-leaves o reach gap rim old leaving is =
+    let same : gap.parent ≡ rim.parent.node = let e : Some gap.parent ≡ Some rim.parent.node = is.above.0 in cc in
+    subst (λ k. IsLeaving o reach k old) same leaving
+
+pub rim-counted : (o : Option (RecordMap NodeRecord)) (reach : Reach) (gap : Gap) (rim : Rim) (old : Option Tree) → IsLeaving o reach gap.parent old → IsRim o gap rim → AreCounted o reach (nodes_of_tree old) rim.above.items
+rim-counted o reach gap rim old leaving is = counted-above o reach (nodes_of_tree old) rim.parent.node rim.parent.record rim.above.items is.above.1 (rim-goes o reach gap rim old leaving is) is.above.2
+
+pub parent-counted : (o : Option (RecordMap NodeRecord)) (reach : Reach) (gap : Gap) (rim : Rim) (old new : Option Tree) (parent : Seen) → entry_of parent ≡ (rim.parent.node, adopted gap old new (row_of rim.parent.record)) → IsLeaving o reach gap.parent old
+    → IsRim o gap rim → IsCounted o reach (nodes_of_tree old) parent
+parent-counted o reach gap rim old new parent is leaving rimmed =
+    let node_is : rim.parent.node ≡ parent.node = sym (ap (λ (x : ℕ × NodeRow). x.0) is) in
+    (rim.parent.record, (subst (λ k. IsRecord o k rim.parent.record) node_is rimmed.above.1, sym (ap (λ (x : ℕ × NodeRow). x.1.descendants) is), subst (GoFrom o reach (nodes_of_tree old)) node_is (rim-goes o reach gap rim old leaving rimmed)))
 
 pub tree-fits : (tree : Option Tree) → hash_of_tree tree ≤ 2 ^ 128
 tree-fits None = omega arith

@@ -28,7 +28,8 @@ use Rattle.sx_model.proofs.Holes.{shown-beside}
 use Rattle.sx_view.specs.declared.fault.Fault.{Fault}
 use Rattle.sx_edit.specs.declared.fault.EditFault.{EditFault}
 use Rattle.sx_edit.specs.declared.fault.EditFault.TheVariants.{Refused}
-use Rattle.sx_edit.specs.Damage.{IsDamaged, IsReached, IsRecord}
+use Rattle.sx_edit.specs.Damage.{IsDamaged}
+use Rattle.sx_edit.specs.Links.{IsReached, IsRecord}
 use Rattle.sx_edit.specs.Seen.{AreReached}
 use Rattle.sx_edit.specs.declared.trees.Gap.{Gap}
 use Rattle.sx_edit.proofs.Going.{leads-first, leads-last, leads-left, leads-one, leads-parent, leads-reached, leads-right}

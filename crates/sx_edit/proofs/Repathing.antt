@@ -12,7 +12,8 @@ use Rattle.sx_tree.specs.declared.record.Step.{Step}
 use Rattle.sx_tree.specs.declared.record.Step.TheVariants.{Top}
 use Rattle.sx_view.specs.declared.fault.Fault.{Fault}
 use Rattle.sx_view.specs.declared.fault.Fault.TheVariants as faults
-use Rattle.sx_edit.specs.Damage.{IsDamaged, LeadsTo}
+use Rattle.sx_edit.specs.Damage.{IsDamaged}
+use Rattle.sx_edit.specs.Links.{LeadsTo, first_tops, with_top}
 use Rattle.sx_edit.specs.Seen.{entries_of, entry_of}
 use Rattle.sx_edit.specs.declared.trees.Seen.{Seen}
 use Rattle.sx_edit.specs.EditFault.{edit_fault}
@@ -28,7 +29,6 @@ use Rattle.sx_edit.specs.declared.fault.EditFault.TheVariants.{Failed, Damaged, 
 use Rattle.sx_edit.specs.declared.trees.Move.{Move}
 use Rattle.sx_edit.specs.Pathways.{CannotCountIn, IsCountedIn, IsCountedOut, IsOnto, IsPathAt, Kept, Lists, Numbers, Stops, StopsOnto, kept, more_on, own_of, own_path, paths_under}
 use Rattle.sx_edit.specs.Repath.{Agree, AllLead, BeginAll, Branch, CannotExchange, Goal, IsExchanged, IsRepathed, IsUnder, ShowsBranches, StopsRepathing, StopsUnder, branch_sizes, first_goals, goal_of, goals_of, new_paths, new_rows, old_paths, old_rows, with_goal}
-use Rattle.sx_edit.specs.Clear.{first_tops, with_top}
 use Rattle.sx_edit.specs.Told.{IsWalked, Shows, numbers_of}
 use Rattle.sx_edit.proofs.Climbing.{map-append, some_is}
 use Rattle.sx_edit.proofs.Pathing.{lists-as, more-append, more-swap, own-numbers, path-with, start-at, with-one, with-twice}

@@ -20,12 +20,13 @@ use Rattle.sx_paths.proofs.Listing.{with_paths-append, with_paths-behind}
 use Rattle.sx_edit.specs.declared.fault.EditFault.{EditFault}
 use Rattle.sx_edit.specs.declared.fault.EditFault.TheVariants.{Refused, Failed, Damaged, OutOfMemory}
 use Rattle.sx_edit.specs.declared.trees.Children.{Children}
-use Rattle.sx_edit.specs.Damage.{IsBreachFault}
+use Rattle.sx_model.specs.Edit.{Edit}
+use Rattle.sx_edit.specs.Damage.{IsBreachFault, Reach, reach_of}
 use Rattle.sx_edit.specs.EditFault.{ExplainsEdit, IsBreachEdit, edit_fault}
 use Rattle.sx_edit.specs.Grow.{IsGrown, StopsGrowing, array_node, object_node, paths_under_node, top_of, trees_below, value_paths}
 use Rattle.sx_edit.specs.Pathways.{CannotCountIn, IsCountedIn, IsOnto, Kept, Stops, StopsOnto, more_on}
 use Rattle.sx_edit.specs.Drift.{Drifts}
-use Rattle.sx_edit.proofs.Drifting.{drifts-then}
+use Rattle.sx_edit.proofs.Drifting.{drifts-on}
 use Rattle.sx_edit.proofs.Growing.{IsHung, IsMember, beside-numbered, size-numbered_fields, size-numbered_values}
 use Rattle.sx_edit.proofs.Pathing.{path-with, start-at, with-one, with-twice}
 use Rattle.sx_edit.proofs.TreePaths.{paths-beside, paths-few, paths-value}
@@ -62,17 +63,17 @@ unfolding StopsGrowing
 memory-stops_growing paths path more had table (Ok x) is = absurd is
 memory-stops_growing paths path more had table (Err e) is = λ listed count steps lists at room. subst (Stops had listed (paths steps)) (sym is) tt
 
-pub fault-breach : {A : Type 0} (o : Option (RecordMap NodeRecord)) (table : List PathRow) (next : ℕ) (r : Result A EditFault) (fault : Fault) → IsErrAnd r (λ e. e ≡ edit_fault fault) → IsBreachFault o table next fault → IfErr r (IsBreachEdit o table next)
-fault-breach o table next (Ok x) fault is breach = absurd is
-fault-breach o table next (Err e) faults.Failed is breach = absurd breach
-fault-breach o table next (Err e) (faults.Damaged d) is breach = subst (IsBreachEdit o table next) (sym is) breach
-fault-breach o table next (Err e) faults.OutOfMemory is breach = absurd breach
+pub fault-breach : {A : Type 0} (o : Option (RecordMap NodeRecord)) (table : List PathRow) (reach : Reach) (r : Result A EditFault) (fault : Fault) → IsErrAnd r (λ e. e ≡ edit_fault fault) → IsBreachFault o table reach fault → IfErr r (IsBreachEdit o table reach)
+fault-breach o table reach (Ok x) fault is breach = absurd is
+fault-breach o table reach (Err e) faults.Failed is breach = absurd breach
+fault-breach o table reach (Err e) (faults.Damaged d) is breach = subst (IsBreachEdit o table reach) (sym is) breach
+fault-breach o table reach (Err e) faults.OutOfMemory is breach = absurd breach
 
-pub breach-edit_explains : (next : ℕ) (told : Option (RecordMap NodeRecord)) (table : List PathRow) (rose : Type 0) (e : EditFault) → IsBreachEdit told table next e → ExplainsEdit next told table rose e
-breach-edit_explains next told table rose (Refused refusal) is = tt
-breach-edit_explains next told table rose Failed is = absurd is
-breach-edit_explains next told table rose (Damaged d) is = inr (inr is)
-breach-edit_explains next told table rose OutOfMemory is = tt
+pub breach-edit_explains : (edit : Edit) (next : ℕ) (told : Option (RecordMap NodeRecord)) (table : List PathRow) (rose : Type 0) (e : EditFault) → IsBreachEdit told table (reach_of edit next told) e → ExplainsEdit edit next told table rose e
+breach-edit_explains edit next told table rose (Refused refusal) is = tt
+breach-edit_explains edit next told table rose Failed is = absurd is
+breach-edit_explains edit next told table rose (Damaged d) is = inr (inr (inr is))
+breach-edit_explains edit next told table rose OutOfMemory is = tt
 
 -- the value's path is not as it must be
 pub uncounted-stops : {A : Type 0} (v : Value) (n path more had : ℕ) (table : List PathRow) (r : Result A EditFault) (e : EditFault) → 1 ≤ more → IsErrAnd r (λ x. x ≡ e) → CannotCountIn path table
@@ -103,17 +104,17 @@ object-stops w fs n path had old mid e is counted stops =
     subst (λ v. StopsGrowing (value_paths v n) path (nodes v) had old e) (sym is) (below-stops (object_node n) (numbered_fields fs (suc n)) path (nodes_of_fields fs) (suc (nodes_of_fields fs)) had old mid e refl counted stops)
 
 -- the nodes of an array, and of an object
-pub array-fits : (plus : ℕ) (w : Value) (vs : Values) → plus + nodes w ≤ 2 ^ 30 → w ≡ array vs → plus + 1 + nodes_of_values vs ≤ 2 ^ 30
-array-fits plus w vs few is = omega (arith, few, ap nodes is)
+pub array-fits : (number last : ℕ) (w : Value) (vs : Values) → number + nodes w ≤ last → w ≡ array vs → number + 1 + nodes_of_values vs ≤ last
+array-fits number last w vs few is = omega (arith, few, ap nodes is)
 
-pub object-fits : (plus : ℕ) (w : Value) (fs : Fields) → plus + nodes w ≤ 2 ^ 30 → w ≡ object fs → plus + 1 + nodes_of_fields fs ≤ 2 ^ 30
-object-fits plus w fs few is = omega (arith, few, ap nodes is)
+pub object-fits : (number last : ℕ) (w : Value) (fs : Fields) → number + nodes w ≤ last → w ≡ object fs → number + 1 + nodes_of_fields fs ≤ last
+object-fits number last w fs few is = omega (arith, few, ap nodes is)
 
-pub array-drifts : (w : Value) (vs : Values) (old mid new : List PathRow) → Drifts 1 0 old mid → Drifts (nodes_of_values vs) 0 mid new → w ≡ array vs → Drifts (nodes w) 0 old new
-array-drifts w vs old mid new first rest is = drifts-then 1 0 (nodes_of_values vs) 0 (nodes w) 0 (omega (arith, ap nodes is)) (omega arith) old mid new first rest
+pub array-drifts : (w : Value) (vs : Values) (old mid new : List PathRow) → Drifts 1 [] old mid → Drifts (nodes_of_values vs) [] mid new → w ≡ array vs → Drifts (nodes w) [] old new
+array-drifts w vs old mid new first rest is = drifts-on 1 (nodes_of_values vs) (nodes w) [] old mid new (omega (arith, ap nodes is)) first rest
 
-pub object-drifts : (w : Value) (fs : Fields) (old mid new : List PathRow) → Drifts 1 0 old mid → Drifts (nodes_of_fields fs) 0 mid new → w ≡ object fs → Drifts (nodes w) 0 old new
-object-drifts w fs old mid new first rest is = drifts-then 1 0 (nodes_of_fields fs) 0 (nodes w) 0 (omega (arith, ap nodes is)) (omega arith) old mid new first rest
+pub object-drifts : (w : Value) (fs : Fields) (old mid new : List PathRow) → Drifts 1 [] old mid → Drifts (nodes_of_fields fs) [] mid new → w ≡ object fs → Drifts (nodes w) [] old new
+object-drifts w fs old mid new first rest is = drifts-on 1 (nodes_of_fields fs) (nodes w) [] old mid new (omega (arith, ap nodes is)) first rest
 
 -- ---- child by child
 

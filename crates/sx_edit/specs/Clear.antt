@@ -1,17 +1,9 @@
 -- Numbers of trees that are to go.
-use Rattle.std.specs.Prelude.{ℕ, List, [], ◌∷◌, map, reverse, Option, Some, None}
+use Rattle.std.specs.Prelude.{ℕ, List, [], ◌∷◌, map, reverse, Option}
 use Rattle.sx_tree.specs.declared.record.NodeRecord.{NodeRecord}
 use Rattle.sx_view.specs.Records.{RecordMap}
-use Rattle.sx_edit.specs.Damage.{LeadsTo}
+use Rattle.sx_edit.specs.Links.{LeadsTo}
 use Rattle.sx_edit.specs.declared.clear.Link.{Link}
-
--- with one more number to clear, where there is one
-abbrev pub with_top : Option ℕ → List ℕ → List ℕ
-with_top None ks = ks
-with_top (Some k) ks = k ∷ ks
-
-abbrev pub first_tops : Option ℕ → List ℕ
-first_tops first = with_top first []
 
 -- the numbers to which the links lead, that of the last link first
 abbrev pub tops_of : List Link → List ℕ

@@ -8,7 +8,8 @@ use Rattle.sx_view.specs.declared.fault.Fault.TheVariants as faults
 use Rattle.sx_edit.specs.declared.fault.EditFault.{EditFault}
 use Rattle.sx_edit.specs.declared.fault.EditFault.TheVariants.{Refused, Failed, Damaged, OutOfMemory}
 use Rattle.std.specs.Prelude.{◌⊎◌}
-use Rattle.sx_edit.specs.Damage.{IsBreach, IsBroken, IsDamage}
+use Rattle.sx_model.specs.Edit.{Edit}
+use Rattle.sx_edit.specs.Damage.{IsBreach, IsDamage, IsMiscounted, Reach}
 
 abbrev pub edit_fault : Fault → EditFault
 edit_fault faults.Failed = Failed
@@ -16,19 +17,19 @@ edit_fault (faults.Damaged damage) = Damaged damage
 edit_fault faults.OutOfMemory = OutOfMemory
 
 -- Failed comes only where the faults of the object below rose, and Damaged only where nothing is told or of a rule that is broken, by the
--- records and the table as they were.
-abbrev pub ExplainsEdit : ℕ → Option (RecordMap NodeRecord) → List PathRow → Type 0 → EditFault → Type 0
-ExplainsEdit next told table rose (Refused refusal) = Unit {0}
-ExplainsEdit next told table rose Failed = rose
-ExplainsEdit next told table rose (Damaged damage) = IsDamage next told table damage
-ExplainsEdit next told table rose OutOfMemory = Unit {0}
+-- records and the table as they were, in what the edit reaches.
+abbrev pub ExplainsEdit : Edit → ℕ → Option (RecordMap NodeRecord) → List PathRow → Type 0 → EditFault → Type 0
+ExplainsEdit edit next told table rose (Refused refusal) = Unit {0}
+ExplainsEdit edit next told table rose Failed = rose
+ExplainsEdit edit next told table rose (Damaged damage) = IsDamage edit next told table damage
+ExplainsEdit edit next told table rose OutOfMemory = Unit {0}
 
 -- A damage is told of a path that a node needs, and nothing failed.
-abbrev pub IsBreachEdit : Option (RecordMap NodeRecord) → List PathRow → ℕ → EditFault → Type 0
-IsBreachEdit o table next (Refused refusal) = Unit {0}
-IsBreachEdit o table next Failed = ⊥
-IsBreachEdit o table next (Damaged damage) = IsBreach o table next damage
-IsBreachEdit o table next OutOfMemory = Unit {0}
+abbrev pub IsBreachEdit : Option (RecordMap NodeRecord) → List PathRow → Reach → EditFault → Type 0
+IsBreachEdit o table reach (Refused refusal) = Unit {0}
+IsBreachEdit o table reach Failed = ⊥
+IsBreachEdit o table reach (Damaged damage) = IsBreach o table reach damage
+IsBreachEdit o table reach OutOfMemory = Unit {0}
 
 abbrev pub IsDamagedEdit : EditFault → Type 0
 IsDamagedEdit (Refused refusal) = ⊥
@@ -42,9 +43,9 @@ IsRefused Failed = ⊥
 IsRefused (Damaged damage) = ⊥
 IsRefused OutOfMemory = ⊥
 
--- A damage is told of a rule that is broken, and nothing failed.
-abbrev pub IsBrokenEdit : Option (RecordMap NodeRecord) → List PathRow → ℕ → EditFault → Type 0
-IsBrokenEdit told table next (Refused refusal) = Unit {0}
-IsBrokenEdit told table next Failed = ⊥
-IsBrokenEdit told table next (Damaged damage) = IsBroken told next damage ⊎ IsBreach told table next damage
-IsBrokenEdit told table next OutOfMemory = Unit {0}
+-- A damage is told of a count or of such a path, and nothing failed.
+abbrev pub IsBrokenEdit : Option (RecordMap NodeRecord) → List PathRow → Reach → EditFault → Type 0
+IsBrokenEdit told table reach (Refused refusal) = Unit {0}
+IsBrokenEdit told table reach Failed = ⊥
+IsBrokenEdit told table reach (Damaged damage) = IsMiscounted told reach damage ⊎ IsBreach told table reach damage
+IsBrokenEdit told table reach OutOfMemory = Unit {0}

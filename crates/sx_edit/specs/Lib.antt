@@ -8,6 +8,7 @@ pub mod Fill
 pub mod Gets
 pub mod Grow
 pub mod Holes
+pub mod Links
 pub mod Mend
 pub mod Names
 pub mod Pathways

@@ -9,7 +9,7 @@ use Rattle.sx_model.specs.Records.{Around, NodeRow, PathRow, first_of, rows}
 use Rattle.sx_model.specs.Tree.{Forest, FitBelow, is_value, size}
 use Rattle.sx_edit.specs.declared.fault.EditFault.{EditFault}
 use Rattle.sx_edit.specs.declared.trees.Move.{Move}
-use Rattle.sx_edit.specs.Damage.{LeadsTo}
+use Rattle.sx_edit.specs.Links.{LeadsTo}
 use Rattle.sx_edit.specs.Drift.{IsThere}
 use Rattle.sx_edit.specs.Pathways.{IsPathAt, Kept, Lists, Numbers, Stops, more_on, own_of, paths_under}
 use Rattle.sx_edit.specs.Told.{Shows}

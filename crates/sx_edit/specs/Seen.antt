@@ -1,5 +1,5 @@
 -- Nodes that were read, with their records, and records that are put and taken away.
-use Rattle.std.specs.Prelude.{◌≡◌, ◌⊎◌, IfSome, ℕ, List, [], ◌∷◌, map, reverse, Option, None, Some}
+use Rattle.std.specs.Prelude.{◌≡◌, ◌+◌, ◌⊎◌, IfSome, ℕ, List, [], ◌∷◌, map, reverse, Option, None, Some}
 use Rattle.std.specs.FinMap as fin
 use Rattle.sx_tree.specs.declared.record.NodeRecord.{NodeRecord}
 use Rattle.sx_view.specs.Records.{RecordMap}
@@ -8,7 +8,9 @@ use Rattle.sx_model.specs.Records.{NodeRow}
 use Rattle.sx_edit.specs.declared.trees.Gap.{Gap}
 use Rattle.sx_edit.specs.declared.trees.Rim.{Rim}
 use Rattle.sx_edit.specs.declared.trees.Seen.{Seen}
-use Rattle.sx_edit.specs.Damage.{IsAbsent, IsReached, IsRecord}
+use Rattle.sx_edit.specs.declared.trees.Tree.{Tree}
+use Rattle.sx_edit.specs.Damage.{Reach}
+use Rattle.sx_edit.specs.Links.{IsAbove, IsAbsent, IsBelow, IsNear, IsOver, IsReached, IsRecord}
 use Rattle.sx_edit.specs.Room.{CountsLevels}
 
 abbrev pub entry_of : Seen → ℕ × NodeRow
@@ -69,7 +71,19 @@ IsNoSight o (Some k) = IsAbsent o k
 abbrev pub CannotSurvey : ℕ → Gap → Option (RecordMap NodeRecord) → Type 0
 CannotSurvey next gap o = IsNoSight o gap.left ⊎ (IsNoSight o gap.right ⊎ CountsLevels (Some gap.parent) next o None)
 
--- each of these nodes is told with so many below it
-abbrev pub AreCounted : Option (RecordMap NodeRecord) → List Seen → Type 0
-AreCounted o [] = Unit {0}
-AreCounted o (seen ∷ seens) = ((r : NodeRecord) × (IsRecord o seen.node r × (r.descendants ≡ seen.record.descendants))) × AreCounted o seens
+-- So many nodes go from below this one: none, where it stands over the node that is named; or the tree of that one, above which it stands.
+abbrev pub GoFrom : Option (RecordMap NodeRecord) → Reach → ℕ → ℕ → Type 0
+GoFrom o reach minus k =
+    ((minus ≡ 0) × IsOver o k reach.node)
+    ⊎ ((own : NodeRecord) × (IsRecord o reach.node own × (minus ≡ own.descendants + 1) × IsAbove o k reach.node))
+
+-- each of these nodes is told with so many below it, and so many go from there
+abbrev pub AreCounted : Option (RecordMap NodeRecord) → Reach → ℕ → List Seen → Type 0
+AreCounted o reach minus [] = Unit {0}
+AreCounted o reach minus (seen ∷ seens) =
+    ((r : NodeRecord) × (IsRecord o seen.node r × (r.descendants ≡ seen.record.descendants) × GoFrom o reach minus seen.node)) × AreCounted o reach minus seens
+
+-- What goes below the parent is the tree of the node that is named; where none goes, the parent is that node or its own parent.
+abbrev pub IsLeaving : Option (RecordMap NodeRecord) → Reach → ℕ → Option Tree → Type 0
+IsLeaving o reach parent None = IsNear o reach.node parent
+IsLeaving o reach parent (Some tree) = IsBelow o reach.node parent × ((own : NodeRecord) × (IsRecord o reach.node own × (tree.nodes ≡ own.descendants + 1)))

@@ -1,11 +1,12 @@
 //! The nodes of trees that go, and their values taken from the counts of paths.
-ghost use Rattle.std.specs.Prelude.{◌≡◌, ◌+◌, ◌≤◌, [], ◌∷◌, None, Some, IfErr, IfNone, IfOk, IfSome, OnOk, Option, length};
+ghost use Rattle.std.specs.Prelude.{◌≡◌, ◌+◌, ◌≤◌, List, [], ◌∷◌, None, Some, IfErr, IfNone, IfOk, IfSome, OnOk, Option, length};
 ghost use Rattle.sx_outside.specs.Faults.{Rose};
 ghost use Rattle.sx_tree.specs.declared.record.NodeRecord.{NodeRecord as TheRecord};
 ghost use Rattle.sx_view.specs.Records.{RecordMap};
-ghost use Rattle.sx_edit.specs.Clear.{AllLead, first_tops, tops_of, with_top};
-ghost use Rattle.sx_edit.specs.Damage.{ExplainsBoth, IsDamaged, LeadsTo};
+ghost use Rattle.sx_edit.specs.Clear.{AllLead, tops_of};
+ghost use Rattle.sx_edit.specs.Damage.{ExplainsBoth, IsDamaged, Reach};
 ghost use Rattle.sx_edit.specs.Drift.{Drifts};
+ghost use Rattle.sx_edit.specs.Links.{IsRecord, LeadsTo, Walks, first_tops, paths_left, preorder, with_top};
 ghost use Rattle.sx_edit.specs.Steps.{GoesOn};
 ghost use Rattle.sx_edit.specs.Pathways.{kept};
 ghost use Rattle.sx_edit.specs.Told.{IsDiscounted, IsWalked};
@@ -68,8 +69,12 @@ pub(crate) fn clear<N: RecordsMut<NodeRecord>>(
     ensures same { N.told nodes.new ≡ N.told nodes.old }
     ensures same_mark { paths.new.marked ≡ paths.old.marked }
     ensures goes_on { GoesOn N.told N.faults N.has_mark N.marks nodes.old nodes.new }
-    ensures drifts { OnOk result (Drifts 0 next paths.old.paths paths.new.paths) }
-    ensures fault { IfErr result (ExplainsBoth next (N.told nodes.old) paths.old.paths
+    ensures drifts { OnOk result ((visited : List TheRecord)
+        × (Walks preorder (N.told nodes.old) (first_tops first) visited []
+        × Drifts 0 (paths_left visited) paths.old.paths paths.new.paths)) }
+    ensures fault { (reach : Reach) (own : TheRecord) → reach.next ≡ next
+        → IsRecord (N.told nodes.old) reach.node own → own.first ≡ first
+        → IfErr result (ExplainsBoth reach (N.told nodes.old) paths.old.paths
         (Rose (N.faults nodes.old) (N.faults nodes.new))) }
 {
     let mut gone: Vec<u32> = Vec::new(alloc);

@@ -1,7 +1,8 @@
 //! What stands around a gap, read before anything is changed.
 ghost use Rattle.std.specs.Prelude.{◌≡◌, ◌+◌, ◌≤◌, ◌^◌, ℕ, None, Some, IfErr, IfOk, IfSome, length, reverse};
 ghost use Rattle.sx_outside.specs.Faults.{Rose};
-ghost use Rattle.sx_edit.specs.Damage.{Explains, IsAbsent, IsDamaged, IsReached};
+ghost use Rattle.sx_edit.specs.Damage.{Explains, IsDamaged};
+ghost use Rattle.sx_edit.specs.Links.{IsReached};
 ghost use Rattle.sx_edit.specs.Room.{CountsLevels};
 ghost use Rattle.sx_edit.specs.Seen.{AreReached, CannotSurvey, IsChain, IsNoSight, IsRim, IsSight};
 ghost use Rattle.sx_edit.specs.Steps.{GoesOn};

@@ -74,7 +74,7 @@ fn change<N: RecordsMut<NodeRecord>>(
         (N.gets nodes.old) (N.gets nodes.new)) }
     ensures same_mark { paths.new.marked ≡ paths.old.marked }
     ensures goes_on { GoesOn N.told N.faults N.has_mark N.marks nodes.old nodes.new }
-    ensures fault { IfErr result (ExplainsEdit next (N.told nodes.old) paths.old.paths
+    ensures fault { IfErr result (ExplainsEdit (edit_of edit.now) next (N.told nodes.old) paths.old.paths
         (Rose (N.faults nodes.old) (N.faults nodes.new))) }
 {
     match edit {
@@ -130,7 +130,7 @@ pub fn apply<N: RecordsMut<NodeRecord>>(
     ensures unchanged_paths { OnErr result (paths.new.paths ≡ paths.old.paths) }
     ensures no_mark { IsFalse (N.has_mark nodes.new) }
     ensures no_mark_of_paths { paths.new.marked ≡ None }
-    ensures fault { IfErr result (ExplainsEdit next (N.told nodes.old) paths.old.paths
+    ensures fault { IfErr result (ExplainsEdit (edit_of edit.now) next (N.told nodes.old) paths.old.paths
         (Rose (N.faults nodes.old) (N.faults nodes.new))) }
 {
     let had = paths.len();

@@ -7,14 +7,13 @@ ghost use Rattle.sx_view.specs.Records.{RecordMap};
 ghost use Rattle.sx_tree.specs.Value as plain;
 ghost use Rattle.sx_tree.specs.Value.{value_of};
 ghost use Rattle.sx_view.specs.Rows.{row_of};
-ghost use Rattle.sx_edit.specs.Damage.{HasTreeOf};
-ghost use Rattle.sx_edit.specs.Drift.{Drifts, IsKnown};
-ghost use Rattle.sx_edit.specs.Mend.{nodes_of_tree};
+ghost use Rattle.sx_edit.specs.Damage.{Reach};
+ghost use Rattle.sx_edit.specs.Drift.{Drifts, IsKnownOn};
 ghost use Rattle.sx_edit.specs.EditFault.{IsBreachEdit, IsBrokenEdit};
 ghost use Rattle.sx_edit.specs.Fill.{IsFilled, StopsFilling, entering_below, entering_nodes, entering_paths, entering_rows, entering_top, enters};
 ghost use Rattle.sx_edit.specs.Grow.{IsGrown, StopsGrowing, top_row};
 ghost use Rattle.sx_edit.specs.Pathways.{kept};
-ghost use Rattle.sx_edit.specs.Seen.{IsRim};
+ghost use Rattle.sx_edit.specs.Seen.{IsLeaving, IsRim};
 ghost use Rattle.sx_edit.specs.Steps.{GoesOn};
 
 use crate::fault::EditFault;
@@ -51,9 +50,10 @@ fn enter<N: RecordsMut<NodeRecord>>(
         (kept (N.told nodes.old) paths.old.paths) (kept (N.told nodes.new) paths.new.paths)) }
     ensures stops { IfErr result (StopsGrowing (entering_paths (option_copied name.entry) (value_of value.now) next)
         path (plain.nodes (value_of value.now)) had paths.old.paths) }
-    ensures fault { (o : Option (RecordMap TheRecord)) (table : List PathRow) (minus : ℕ)
-        → IsKnown o next next paths.old.paths path → Drifts 0 minus table paths.old.paths
-        → IfErr result (IsBreachEdit o table next) }
+    ensures fault { (o : Option (RecordMap TheRecord)) (table : List PathRow) (reach : Reach) (minus : List ℕ)
+        → reach.next ≡ next → reach.more ≡ entering_nodes (option_copied name.entry) (value_of value.now)
+        → IsKnownOn o reach paths.old.paths path → Drifts 0 minus table paths.old.paths
+        → IfErr result (IsBreachEdit o table reach) }
     ensures same_gets { N.gets nodes.new ≡ N.gets nodes.old }
     ensures same_mark { paths.new.marked ≡ paths.old.marked }
     ensures goes_on { GoesOn N.told N.faults N.has_mark N.marks nodes.old nodes.new }
@@ -99,10 +99,11 @@ pub(crate) fn fill<N: RecordsMut<NodeRecord>>(
     ensures same_mark { paths.new.marked ≡ paths.old.marked }
     ensures goes_on { GoesOn N.told N.faults N.has_mark N.marks nodes.old nodes.new }
     ensures same_gets { N.gets nodes.new ≡ N.gets nodes.old }
-    ensures fault { (o : Option (RecordMap TheRecord)) (table : List PathRow) (minus : ℕ)
-        → HasTreeOf o (nodes_of_tree old) → IsRim o gap rim
-        → IsKnown o next next paths.old.paths path → Drifts 0 minus table paths.old.paths
-        → IfErr result (IsBrokenEdit o table next) }
+    ensures fault { (o : Option (RecordMap TheRecord)) (table : List PathRow) (reach : Reach) (minus : List ℕ)
+        → reach.next ≡ next → reach.more ≡ entering_nodes (option_copied name.entry) (value_of value.now)
+        → IsRim o gap rim → IsLeaving o reach gap.parent old
+        → IsKnownOn o reach paths.old.paths path → Drifts 0 minus table paths.old.paths
+        → IfErr result (IsBrokenEdit o table reach) }
 {
     let top = enter(alloc, nodes, paths, had, next, name, value, path)?;
     let tree = Tree {

@@ -10,6 +10,7 @@ ghost use Rattle.sx_tree.specs.Value.{value_of, values_of, fields_of, nodes_of_v
 ghost use Rattle.sx_model.specs.Hash.{local_hash};
 ghost use Rattle.sx_model.specs.Holes.{shown};
 ghost use Rattle.sx_model.specs.Numbered.{numbered_values, numbered_fields};
+ghost use Rattle.sx_edit.specs.Damage.{Reach};
 ghost use Rattle.sx_edit.specs.Drift.{Drifts, IsKnown, IsThere};
 ghost use Rattle.sx_edit.specs.EditFault.{IsBreachEdit};
 ghost use Rattle.sx_edit.specs.Grow.{IsAdded, IsGrown, IsKept, IsOneMore, IsKeyOver, StopsGrowing, array_node, linked, object_node, only_if};
@@ -128,10 +129,11 @@ pub(crate) fn grow<N: RecordsMut<NodeRecord>>(
         (kept (N.told nodes.old) paths.old.paths) (kept (N.told nodes.new) paths.new.paths)) }
     ensures stops { IfErr result (StopsGrowing (value_paths (value_of value.now) number) path
         (plain.nodes (value_of value.now)) had paths.old.paths) }
-    ensures drifts { OnOk result (Drifts (plain.nodes (value_of value.now)) 0 paths.old.paths paths.new.paths) }
-    ensures fault { (o : Option (RecordMap TheRecord)) (table : List PathRow) (next plus minus : ℕ)
-        → next ≤ number → IsKnown o next number paths.old.paths path → Drifts plus minus table paths.old.paths
-        → plus + plain.nodes (value_of value.now) ≤ 2 ^ 30 → IfErr result (IsBreachEdit o table next) }
+    ensures drifts { OnOk result (Drifts (plain.nodes (value_of value.now)) [] paths.old.paths paths.new.paths) }
+    ensures fault { (o : Option (RecordMap TheRecord)) (table : List PathRow) (reach : Reach) (plus : ℕ) (minus : List ℕ)
+        → reach.next + plus ≤ number → number + plain.nodes (value_of value.now) ≤ reach.next + reach.more
+        → IsKnown o reach number paths.old.paths path → Drifts plus minus table paths.old.paths
+        → IfErr result (IsBreachEdit o table reach) }
     ensures same_mark { paths.new.marked ≡ paths.old.marked }
     ensures same_gets { N.gets nodes.new ≡ N.gets nodes.old }
     ensures goes_on { GoesOn N.told N.faults N.has_mark N.marks nodes.old nodes.new }
@@ -179,10 +181,12 @@ fn grow_items<N: RecordsMut<NodeRecord>>(
     ensures stops { IfErr result (StopsGrowing
         (paths_under_node (array_node parent) (numbered_values (values_of values.now) (suc parent)))
         path (nodes_of_values (values_of values.now)) had paths.old.paths) }
-    ensures drifts { OnOk result (Drifts (nodes_of_values (values_of values.now)) 0 paths.old.paths paths.new.paths) }
-    ensures fault { (o : Option (RecordMap TheRecord)) (table : List PathRow) (next plus minus : ℕ)
-        → next ≤ parent → IsThere paths.old.paths path → Drifts plus minus table paths.old.paths
-        → plus + nodes_of_values (values_of values.now) ≤ 2 ^ 30 → IfErr result (IsBreachEdit o table next) }
+    ensures drifts { OnOk result (Drifts (nodes_of_values (values_of values.now)) [] paths.old.paths paths.new.paths) }
+    ensures fault { (o : Option (RecordMap TheRecord)) (table : List PathRow) (reach : Reach) (plus : ℕ) (minus : List ℕ)
+        → reach.next + plus ≤ parent + 1
+        → parent + 1 + nodes_of_values (values_of values.now) ≤ reach.next + reach.more
+        → IsThere paths.old.paths path → Drifts plus minus table paths.old.paths
+        → IfErr result (IsBreachEdit o table reach) }
     ensures same_mark { paths.new.marked ≡ paths.old.marked }
     ensures same_gets { N.gets nodes.new ≡ N.gets nodes.old }
     ensures goes_on { GoesOn N.told N.faults N.has_mark N.marks nodes.old nodes.new }
@@ -221,10 +225,12 @@ fn grow_members<N: RecordsMut<NodeRecord>>(
     ensures stops { IfErr result (StopsGrowing
         (paths_under_node (object_node parent) (numbered_fields (fields_of members.now) (suc parent)))
         path (nodes_of_fields (fields_of members.now)) had paths.old.paths) }
-    ensures drifts { OnOk result (Drifts (nodes_of_fields (fields_of members.now)) 0 paths.old.paths paths.new.paths) }
-    ensures fault { (o : Option (RecordMap TheRecord)) (table : List PathRow) (next plus minus : ℕ)
-        → next ≤ parent → IsThere paths.old.paths path → Drifts plus minus table paths.old.paths
-        → plus + nodes_of_fields (fields_of members.now) ≤ 2 ^ 30 → IfErr result (IsBreachEdit o table next) }
+    ensures drifts { OnOk result (Drifts (nodes_of_fields (fields_of members.now)) [] paths.old.paths paths.new.paths) }
+    ensures fault { (o : Option (RecordMap TheRecord)) (table : List PathRow) (reach : Reach) (plus : ℕ) (minus : List ℕ)
+        → reach.next + plus ≤ parent + 1
+        → parent + 1 + nodes_of_fields (fields_of members.now) ≤ reach.next + reach.more
+        → IsThere paths.old.paths path → Drifts plus minus table paths.old.paths
+        → IfErr result (IsBreachEdit o table reach) }
     ensures same_mark { paths.new.marked ≡ paths.old.marked }
     ensures same_gets { N.gets nodes.new ≡ N.gets nodes.old }
     ensures goes_on { GoesOn N.told N.faults N.has_mark N.marks nodes.old nodes.new }

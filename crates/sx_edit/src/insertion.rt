@@ -1,5 +1,5 @@
 //! A value that comes to a place.
-ghost use Rattle.std.specs.Prelude.{◌≡◌, ◌+◌, ◌-◌, ◌<◌, ◌≤◌, ◌^◌, ◌&&◌, ◌⊎◌, ℕ, List, not, Some, None, is_none, is_some, length, min, if◌then◌else◌, IfErr, IfOk, IfNone, IfSome, OnOk, Option};
+ghost use Rattle.std.specs.Prelude.{◌≡◌, ◌+◌, ◌-◌, ◌<◌, ◌≤◌, ◌^◌, ◌&&◌, ◌⊎◌, ℕ, List, [], not, Some, None, is_none, is_some, length, min, if◌then◌else◌, IfErr, IfOk, IfNone, IfSome, OnOk, Option};
 ghost use Rattle.std.specs.Option.{option_copied, option_or};
 ghost use Rattle.sx_outside.specs.Faults.{Rose};
 ghost use Rattle.sx_tree.specs.Value.{value_of};
@@ -10,10 +10,11 @@ ghost use Rattle.sx_tree.specs.declared.edit.EditRefusal.TheVariants as refusals
 ghost use Rattle.sx_model.specs.Edit as model;
 ghost use Rattle.sx_model.specs.Tree as tree;
 ghost use Rattle.sx_edit.specs.Answers.{AnswersEach};
-ghost use Rattle.sx_edit.specs.Damage.{Explains, IsDamaged, LeadsTo, NeedsPath};
-ghost use Rattle.sx_edit.specs.Drift.{Drifts, IsKnown, IsThere};
+ghost use Rattle.sx_edit.specs.Damage.{Explains, IsDamaged, NeedsPath, Reach};
+ghost use Rattle.sx_edit.specs.Drift.{Drifts, IsBase, IsThere};
 ghost use Rattle.sx_edit.specs.EditFault.{ExplainsEdit, IsBreachEdit};
 ghost use Rattle.sx_edit.specs.Gets.{GetsAtMost, GetsChildren};
+ghost use Rattle.sx_edit.specs.Links.{LeadsTo};
 ghost use Rattle.sx_edit.specs.Pathways.{IsOnto, StopsOnto, kept};
 ghost use Rattle.sx_edit.specs.Places.{ChecksChildren, FindsTaken, step_into};
 ghost use Rattle.sx_edit.specs.Steps.{GoesOn};
@@ -90,7 +91,7 @@ fn check_children<N: RecordsMut<NodeRecord>>(
     ensures work { OnOk result (GetsChildren next target (N.told nodes.old) (N.gets nodes.old) (N.gets nodes.new)) }
     ensures same { N.told nodes.new ≡ N.told nodes.old }
     ensures goes_on { GoesOn N.told N.faults N.has_mark N.marks nodes.old nodes.new }
-    ensures fault { (table : List PathRow) → IfErr result (ExplainsEdit next (N.told nodes.old) table
+    ensures fault { (edit : model.Edit) (table : List PathRow) → IfErr result (ExplainsEdit edit next (N.told nodes.old) table
         (Rose (N.faults nodes.old) (N.faults nodes.new))) }
 {
     if let Some(node) = taken_name(alloc, nodes, next, target, name)? {
@@ -138,10 +139,10 @@ fn path_into(
         (step_into target.kind (option_copied name.entry)) had paths.old.paths) }
     ensures same_mark { paths.new.marked ≡ paths.old.marked }
     ensures there { IfOk result (λ number. IsThere paths.new.paths number) }
-    ensures drifts { OnOk result (Drifts 0 0 paths.old.paths paths.new.paths) }
-    ensures fault { (o : Option (RecordMap TheRecord)) (table : List PathRow) (next plus minus : ℕ)
-        → NeedsPath o next node → IsKnown o next node paths.old.paths target.path
-        → Drifts plus minus table paths.old.paths → IfErr result (IsBreachEdit o table next) }
+    ensures drifts { OnOk result (Drifts 0 [] paths.old.paths paths.new.paths) }
+    ensures fault { (o : Option (RecordMap TheRecord)) (table : List PathRow) (reach : Reach) (plus : ℕ) (minus : List ℕ)
+        → NeedsPath o reach node → IsBase o reach node paths.old.paths target.path
+        → Drifts plus minus table paths.old.paths → IfErr result (IsBreachEdit o table reach) }
 {
     let step = step_below(alloc, target.kind, name)?;
     step_onto(alloc, paths, had, node, target.path, step)
@@ -180,7 +181,8 @@ pub(crate) fn insert<N: RecordsMut<NodeRecord>>(
         (N.told nodes.old) (N.gets nodes.old) (N.gets nodes.new)) }
     ensures same_mark { paths.new.marked ≡ paths.old.marked }
     ensures goes_on { GoesOn N.told N.faults N.has_mark N.marks nodes.old nodes.new }
-    ensures fault { IfErr result (ExplainsEdit next (N.told nodes.old) paths.old.paths
+    ensures fault { IfErr result (ExplainsEdit
+        (model.insert place (option_copied name.entry) (value_of value.now)) next (N.told nodes.old) paths.old.paths
         (Rose (N.faults nodes.old) (N.faults nodes.new))) }
 {
     let target = target_of(alloc, nodes, next, place)?;

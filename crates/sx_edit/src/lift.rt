@@ -2,7 +2,7 @@
 ghost use Rattle.std.specs.Prelude.{◌≡◌, ◌-◌, ◌≤◌, ◌<◌, ◌^◌, ◌⊎◌, ℕ, IfErr, IfNone, IfSome, OnOk, Option};
 ghost use Rattle.sx_tree.specs.declared.record.NodeRecord.{NodeRecord as TheRecord};
 ghost use Rattle.sx_view.specs.Records.{RecordMap};
-ghost use Rattle.sx_edit.specs.Damage.{HasTreeOf, IsBrokenAtMost, IsDamaged, IsSpent};
+ghost use Rattle.sx_edit.specs.Damage.{IsDamaged, IsMiscountedAtMost, IsSpent, Reach};
 ghost use Rattle.sx_edit.specs.Seen.{AreCounted, upward};
 ghost use Rattle.sx_edit.specs.Steps.{GoesOn};
 ghost use Rattle.sx_edit.specs.Told.{CannotLift, IsLifted};
@@ -53,9 +53,8 @@ pub(crate) fn lift<N: RecordsMut<NodeRecord>>(
     ensures level { shift.plus ≡ 0 → shift.minus ≡ 0 → IfErr result (λ fault. fault ≡ OutOfMemory) }
     ensures same_gets { N.gets nodes.new ≡ N.gets nodes.old }
     ensures goes_on { GoesOn N.told N.faults N.has_mark N.marks nodes.old nodes.new }
-    ensures fault { (o : Option (RecordMap TheRecord)) (next : ℕ) → shift.plus ≤ 2 ^ 30 → HasTreeOf o shift.minus
-        → AreCounted o left.items
-        → IfErr result (IsBrokenAtMost o next) }
+    ensures fault { (o : Option (RecordMap TheRecord)) (reach : Reach) → shift.plus ≡ reach.more
+        → AreCounted o reach shift.minus left.items → IfErr result (IsMiscountedAtMost o reach) }
 {
     let mut share = shift.hash;
     while let Some(seen) = left.pop() {

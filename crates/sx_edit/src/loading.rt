@@ -64,7 +64,8 @@ pub(crate) fn load<N: RecordsMut<NodeRecord>>(
         (N.gets nodes.old) (N.gets nodes.new)) }
     ensures same_mark { paths.new.marked ≡ paths.old.marked }
     ensures goes_on { GoesOn N.told N.faults N.has_mark N.marks nodes.old nodes.new }
-    ensures fault { IfErr result (ExplainsEdit next (N.told nodes.old) paths.old.paths
+    ensures fault { IfErr result (ExplainsEdit (model.load (value_of value.now)) next
+        (N.told nodes.old) paths.old.paths
         (Rose (N.faults nodes.old) (N.faults nodes.new))) }
 {
     match document_child(alloc, nodes)? {

@@ -5,9 +5,10 @@ ghost use Rattle.sx_tree.specs.Record.{IsLink};
 ghost use Rattle.sx_tree.specs.declared.record.NodeRecord.{NodeRecord as TheRecord};
 ghost use Rattle.sx_view.specs.Records.{RecordMap};
 ghost use Rattle.sx_view.specs.Rows.{row_of};
-ghost use Rattle.sx_edit.specs.Damage.{HasTreeOf, IsBrokenAtMost, IsBrokenFault, IsDamaged, IsRecord};
+ghost use Rattle.sx_edit.specs.Damage.{IsDamaged, IsMiscountedAtMost, IsMiscountedFault, Reach};
+ghost use Rattle.sx_edit.specs.Links.{IsRecord};
 ghost use Rattle.sx_edit.specs.Mend.{IsMended, adopted, end, hash_of_tree, nodes_of_tree, number_of_tree, trees_of_tree};
-ghost use Rattle.sx_edit.specs.Seen.{IsRim, entry_of};
+ghost use Rattle.sx_edit.specs.Seen.{IsLeaving, IsRim, entry_of};
 ghost use Rattle.sx_edit.specs.Steps.{GoesOn};
 ghost use Rattle.sx_edit.specs.Told.{IsChanged};
 
@@ -68,8 +69,8 @@ fn adopt(parent: Seen, gap: Gap, old: Option<Tree>, new: Option<Tree>) -> Result
         ≡ (parent.node, adopted gap old new (row_of parent.record))) }
     ensures cannot { IfErr result (λ fault. parent.record.children + trees_of_tree new < 2 ^ 32
         → trees_of_tree old ≤ parent.record.children + trees_of_tree new → ⊥) }
-    ensures fault { (o : Option (RecordMap TheRecord)) (next : ℕ) → IsRecord o parent.node parent.record
-        → IfErr result (IsBrokenFault o next) }
+    ensures fault { (o : Option (RecordMap TheRecord)) (reach : Reach) → IsRecord o parent.node parent.record
+        → IsLeaving o reach parent.node old → IfErr result (IsMiscountedFault o reach) }
 {
     let node = parent.node;
     let mut record = parent.record;
@@ -149,9 +150,8 @@ pub(crate) fn mend<N: RecordsMut<NodeRecord>>(
         → IsMended next gap rim old new (N.told nodes.old) None) }
     ensures same_gets { N.gets nodes.new ≡ N.gets nodes.old }
     ensures goes_on { GoesOn N.told N.faults N.has_mark N.marks nodes.old nodes.new }
-    ensures fault { (o : Option (RecordMap TheRecord)) (next : ℕ) → nodes_of_tree new ≤ 2 ^ 30
-        → HasTreeOf o (nodes_of_tree old) → IsRim o gap rim
-        → IfErr result (IsBrokenAtMost o next) }
+    ensures fault { (o : Option (RecordMap TheRecord)) (reach : Reach) → nodes_of_tree new ≡ reach.more
+        → IsLeaving o reach gap.parent old → IsRim o gap rim → IfErr result (IsMiscountedAtMost o reach) }
 {
     let mut above = rim.above;
     link_right(alloc, nodes, rim.left, next_to(new, gap.right))?;

@@ -1,7 +1,8 @@
 //! Keys of a name among siblings.
 ghost use Rattle.std.specs.Prelude.{◌≡◌, None, Some, IfErr, IfOk, IfSome, OnOk};
 ghost use Rattle.sx_outside.specs.Faults.{Rose};
-ghost use Rattle.sx_edit.specs.Damage.{Explains, IsDamaged, LeadsTo};
+ghost use Rattle.sx_edit.specs.Damage.{Explains, IsDamaged};
+ghost use Rattle.sx_edit.specs.Links.{LeadsTo};
 ghost use Rattle.sx_edit.specs.Gets.{GetsKeys};
 ghost use Rattle.sx_edit.specs.Names.{FindsKey, is_sought};
 ghost use Rattle.sx_edit.specs.Steps.{GoesOn};

@@ -1,13 +1,15 @@
 //! The paths on which values stand, in the table of paths.
-ghost use Rattle.std.specs.Prelude.{◌≡◌, ◌+◌, ◌<◌, ◌≤◌, ◌-◌, ◌^◌, ◌⊎◌, ℕ, List, true, false, None, Some, IfErr, IfOk, OnOk, length, min, Option};
+ghost use Rattle.std.specs.Prelude.{◌≡◌, ◌+◌, ◌<◌, ◌≤◌, ◌-◌, ◌^◌, ◌⊎◌, ℕ, List, [], ◌∷◌, true, false, None, Some, IfErr, IfOk, OnOk, length, min, Option};
 ghost use Rattle.sx_model.specs.Records.{PathRow};
 ghost use Rattle.sx_paths.specs.Table.{row_at};
 ghost use Rattle.sx_tree.specs.declared.record.NodeRecord.{NodeRecord as TheRecord};
 ghost use Rattle.sx_view.specs.Records.{RecordMap};
 ghost use Rattle.sx_tree.specs.declared.record.Step.TheVariants.{Name};
-ghost use Rattle.sx_edit.specs.Damage.{IsBreachFault, IsRecord, NeedsPath};
-ghost use Rattle.sx_edit.specs.Drift.{Drifts, IsKnown, IsThere};
+ghost use Rattle.sx_model.specs.Tree as tree;
+ghost use Rattle.sx_edit.specs.Damage.{HasBefore, IsBreachFault, NeedsPath, Reach};
+ghost use Rattle.sx_edit.specs.Drift.{Drifts, IsBase, IsKnown, IsThere};
 ghost use Rattle.sx_edit.specs.EditFault.{IsBreachEdit};
+ghost use Rattle.sx_edit.specs.Links.{ComesTo, IsRecord, path_left, paths_left};
 ghost use Rattle.sx_edit.specs.Pathways.{CannotCountIn, IsCountedIn, IsCountedOut, IsNodeOut, IsOnto, StopsOnto};
 
 use crate::damage::misplaced;
@@ -69,10 +71,10 @@ pub(crate) fn step_onto(
     ensures stops { IfErr result (StopsOnto parent step had paths.old.paths) }
     ensures same_mark { paths.new.marked ≡ paths.old.marked }
     ensures there { IfOk result (λ number. IsThere paths.new.paths number) }
-    ensures drifts { OnOk result (Drifts 0 0 paths.old.paths paths.new.paths) }
-    ensures fault { (o : Option (RecordMap TheRecord)) (table : List PathRow) (next plus minus : ℕ)
-        → NeedsPath o next node → (parent ≡ 0) ⊎ IsKnown o next node paths.old.paths parent
-        → Drifts plus minus table paths.old.paths → IfErr result (IsBreachEdit o table next) }
+    ensures drifts { OnOk result (Drifts 0 [] paths.old.paths paths.new.paths) }
+    ensures fault { (o : Option (RecordMap TheRecord)) (table : List PathRow) (reach : Reach) (plus : ℕ) (minus : List ℕ)
+        → NeedsPath o reach node → IsBase o reach node paths.old.paths parent
+        → Drifts plus minus table paths.old.paths → IfErr result (IsBreachEdit o table reach) }
 {
     if let Some(number) = paths.find(parent, &step) {
         if number <= parent {
@@ -102,10 +104,10 @@ pub(crate) fn count_in(paths: &mut PathTable, node: u32, path: u32) -> Result<()
     ensures cannot { IfErr result (λ fault. CannotCountIn path paths.old.paths) }
     ensures same_mark { paths.new.marked ≡ paths.old.marked }
     ensures there { OnOk result (IsThere paths.new.paths path) }
-    ensures drifts { OnOk result (Drifts 1 0 paths.old.paths paths.new.paths) }
-    ensures fault { (o : Option (RecordMap TheRecord)) (table : List PathRow) (next plus minus : ℕ)
-        → NeedsPath o next node → IsKnown o next node paths.old.paths path
-        → Drifts plus minus table paths.old.paths → plus + 1 ≤ 2 ^ 30 → IfErr result (IsBreachFault o table next) }
+    ensures drifts { OnOk result (Drifts 1 [] paths.old.paths paths.new.paths) }
+    ensures fault { (o : Option (RecordMap TheRecord)) (table : List PathRow) (reach : Reach) (plus : ℕ) (minus : List ℕ) (came : ℕ)
+        → IsKnown o reach node paths.old.paths path → HasBefore o reach node came → plus ≤ came → came + 1 ≤ 2 ^ 30
+        → Drifts plus minus table paths.old.paths → IfErr result (IsBreachFault o table reach) }
 {
     let Some(entry) = paths.record(path) else {
         return Err(Fault::Damaged(misplaced(node, u64::from(path))));
@@ -127,10 +129,11 @@ pub(crate) fn count_out(paths: &mut PathTable, node: u32, path: u32) -> Result<(
     ensures done { OnOk result (IsCountedOut path paths.old.paths (Some paths.new.paths)) }
     ensures cannot { IfErr result (λ fault. IsCountedOut path paths.old.paths None) }
     ensures same_mark { paths.new.marked ≡ paths.old.marked }
-    ensures drifts { OnOk result (Drifts 0 1 paths.old.paths paths.new.paths) }
-    ensures fault { (o : Option (RecordMap TheRecord)) (table : List PathRow) (next plus minus : ℕ) (own : TheRecord)
-        → IsRecord o node own → own.path ≡ path
-        → Drifts plus minus table paths.old.paths → minus ≤ next → IfErr result (IsBreachFault o table next) }
+    ensures drifts { OnOk result (Drifts 0 (path ∷ []) paths.old.paths paths.new.paths) }
+    ensures fault { (o : Option (RecordMap TheRecord)) (table : List PathRow) (reach : Reach) (plus : ℕ)
+        (visited : List TheRecord) (own : TheRecord)
+        → IsRecord o node own → tree.is_value own.kind ≡ true → own.path ≡ path → ComesTo o reach.node visited node
+        → Drifts plus (paths_left visited) table paths.old.paths → IfErr result (IsBreachFault o table reach) }
 {
     let Some(entry) = paths.record(path) else {
         return Err(Fault::Damaged(misplaced(node, u64::from(path))));
@@ -151,10 +154,10 @@ pub(crate) fn leave_path(paths: &mut PathTable, node: u32, entry: &NodeRecord) -
     ensures done { OnOk result (IsNodeOut entry.now.kind entry.now.path paths.old.paths (Some paths.new.paths)) }
     ensures cannot { IfErr result (λ fault. IsNodeOut entry.now.kind entry.now.path paths.old.paths None) }
     ensures same_mark { paths.new.marked ≡ paths.old.marked }
-    ensures drifts { OnOk result (Drifts 0 1 paths.old.paths paths.new.paths) }
-    ensures fault { (o : Option (RecordMap TheRecord)) (table : List PathRow) (next plus minus : ℕ)
-        → IsRecord o node entry.now
-        → Drifts plus minus table paths.old.paths → minus ≤ next → IfErr result (IsBreachFault o table next) }
+    ensures drifts { OnOk result (Drifts 0 (path_left entry.now) paths.old.paths paths.new.paths) }
+    ensures fault { (o : Option (RecordMap TheRecord)) (table : List PathRow) (reach : Reach) (plus : ℕ)
+        (visited : List TheRecord) → IsRecord o node entry.now → ComesTo o reach.node visited node
+        → Drifts plus (paths_left visited) table paths.old.paths → IfErr result (IsBreachFault o table reach) }
 {
     if is_value(entry.kind) {
         return count_out(paths, node, entry.path);

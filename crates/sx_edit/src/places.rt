@@ -1,7 +1,9 @@
 //! Where a new value comes.
 ghost use Rattle.std.specs.Prelude.{◌≡◌, ◌+◌, ◌≤◌, ◌<◌, ◌^◌, if◌then◌else◌, List, None, Some, IfErr, IfOk, IfSome};
 ghost use Rattle.sx_outside.specs.Faults.{Rose};
-ghost use Rattle.sx_edit.specs.Damage.{LeadsTo, NeedsPathOf};
+ghost use Rattle.sx_model.specs.Edit as model;
+ghost use Rattle.sx_edit.specs.Drift.{IsPathNear};
+ghost use Rattle.sx_edit.specs.Links.{IsNear, LeadsTo};
 ghost use Rattle.sx_edit.specs.EditFault.{ExplainsEdit};
 ghost use Rattle.sx_model.specs.Records.{PathRow};
 ghost use Rattle.sx_edit.specs.Places.{IsPlace, IsNoPlace, place_below, place_beside};
@@ -80,12 +82,13 @@ fn below<N: RecordsMut<NodeRecord>>(
     ensures reached { IfOk result (λ target. AreReached (N.told nodes.old) target.gap) }
     ensures first { IfOk result (λ target. IfSome target.first
         (λ to. LeadsTo (N.told nodes.old) target.gap.parent to)) }
-    ensures path { IfOk result (λ target. NeedsPathOf (N.told nodes.old) next next target.path) }
+    ensures near { IfOk result (λ target. IsNear (N.told nodes.old) node target.gap.parent) }
+    ensures path { IfOk result (λ target. IsPathNear (N.told nodes.old) node target.path) }
     ensures gets { N.gets nodes.new ≤ N.gets nodes.old + 2 }
     ensures none { IfErr result (IsNoPlace (place_below last node) next (N.told nodes.old)) }
     ensures same { N.told nodes.new ≡ N.told nodes.old }
     ensures goes_on { GoesOn N.told N.faults N.has_mark N.marks nodes.old nodes.new }
-    ensures fault { (table : List PathRow) → IfErr result (ExplainsEdit next (N.told nodes.old) table
+    ensures fault { (edit : model.Edit) (table : List PathRow) → IfErr result (ExplainsEdit edit next (N.told nodes.old) table
         (Rose (N.faults nodes.old) (N.faults nodes.new))) }
 {
     if node >= next {
@@ -120,12 +123,13 @@ fn beside<N: RecordsMut<NodeRecord>>(
     ensures reached { IfOk result (λ target. AreReached (N.told nodes.old) target.gap) }
     ensures first { IfOk result (λ target. IfSome target.first
         (λ to. LeadsTo (N.told nodes.old) target.gap.parent to)) }
-    ensures path { IfOk result (λ target. NeedsPathOf (N.told nodes.old) next next target.path) }
+    ensures near { IfOk result (λ target. IsNear (N.told nodes.old) node target.gap.parent) }
+    ensures path { IfOk result (λ target. IsPathNear (N.told nodes.old) node target.path) }
     ensures gets { N.gets nodes.new ≤ N.gets nodes.old + 2 }
     ensures none { IfErr result (IsNoPlace (place_beside after node) next (N.told nodes.old)) }
     ensures same { N.told nodes.new ≡ N.told nodes.old }
     ensures goes_on { GoesOn N.told N.faults N.has_mark N.marks nodes.old nodes.new }
-    ensures fault { (table : List PathRow) → IfErr result (ExplainsEdit next (N.told nodes.old) table
+    ensures fault { (edit : model.Edit) (table : List PathRow) → IfErr result (ExplainsEdit edit next (N.told nodes.old) table
         (Rose (N.faults nodes.old) (N.faults nodes.new))) }
 {
     if node >= next {
@@ -163,12 +167,13 @@ pub(crate) fn target_of<N: RecordsMut<NodeRecord>>(
     ensures reached { IfOk result (λ target. AreReached (N.told nodes.old) target.gap) }
     ensures first { IfOk result (λ target. IfSome target.first
         (λ to. LeadsTo (N.told nodes.old) target.gap.parent to)) }
-    ensures path { IfOk result (λ target. NeedsPathOf (N.told nodes.old) next next target.path) }
+    ensures near { IfOk result (λ target. IsNear (N.told nodes.old) (model.named_by place) target.gap.parent) }
+    ensures path { IfOk result (λ target. IsPathNear (N.told nodes.old) (model.named_by place) target.path) }
     ensures gets { N.gets nodes.new ≤ N.gets nodes.old + 2 }
     ensures none { IfErr result (IsNoPlace place next (N.told nodes.old)) }
     ensures same { N.told nodes.new ≡ N.told nodes.old }
     ensures goes_on { GoesOn N.told N.faults N.has_mark N.marks nodes.old nodes.new }
-    ensures fault { (table : List PathRow) → IfErr result (ExplainsEdit next (N.told nodes.old) table
+    ensures fault { (edit : model.Edit) (table : List PathRow) → IfErr result (ExplainsEdit edit next (N.told nodes.old) table
         (Rose (N.faults nodes.old) (N.faults nodes.new))) }
 {
     match place {

@@ -1,7 +1,7 @@
 //! Another kind, label and path of a node.
 ghost use Rattle.std.specs.Prelude.{◌≡◌, ◌<◌, ◌^◌, IfErr, OnOk};
 ghost use Rattle.sx_view.specs.Rows.{row_of};
-ghost use Rattle.sx_edit.specs.Damage.{IsRecord};
+ghost use Rattle.sx_edit.specs.Links.{IsRecord};
 ghost use Rattle.sx_edit.specs.Edited.{IsRelabeled};
 ghost use Rattle.sx_edit.specs.Seen.{upward};
 ghost use Rattle.sx_edit.specs.Steps.{GoesOn};

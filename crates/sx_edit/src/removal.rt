@@ -1,13 +1,14 @@
 //! A node that goes with all below it.
-ghost use Rattle.std.specs.Prelude.{◌≡◌, ◌+◌, ◌≤◌, ◌^◌, ℕ, None, Some, IfErr, IfOk, OnOk, Option, length};
+ghost use Rattle.std.specs.Prelude.{◌≡◌, ◌+◌, ◌≤◌, ◌^◌, ◌++◌, ℕ, List, [], None, Some, IfErr, IfOk, OnOk, Option, length};
 ghost use Rattle.sx_outside.specs.Faults.{Rose};
 ghost use Rattle.sx_model.specs.Edit as model;
 ghost use Rattle.sx_edit.specs.Answers.{AnswersEach};
 ghost use Rattle.sx_edit.specs.EditFault.{ExplainsEdit};
 ghost use Rattle.sx_tree.specs.declared.record.NodeRecord.{NodeRecord as TheRecord};
 ghost use Rattle.sx_view.specs.Records.{RecordMap};
-ghost use Rattle.sx_edit.specs.Damage.{ExplainsBoth, IsBrokenFault, IsDamaged, IsRecord};
+ghost use Rattle.sx_edit.specs.Damage.{ExplainsBoth, IsDamaged, IsMiscountedFault, Reach};
 ghost use Rattle.sx_edit.specs.Drift.{Drifts};
+ghost use Rattle.sx_edit.specs.Links.{IsRecord, Walks, first_tops, path_left, paths_left, preorder};
 ghost use Rattle.sx_edit.specs.Mend.{IsLeftOut, IsUprooted};
 ghost use Rattle.sx_edit.specs.Gets.{GetsAtMost};
 ghost use Rattle.sx_edit.specs.Pathways.{kept};
@@ -34,8 +35,8 @@ pub(crate) fn tree_of(node: u32, entry: &NodeRecord) -> Result<Tree, Fault>
     ensures tree { IfOk result (λ tree. (tree.number ≡ node) × (tree.nodes ≡ entry.now.descendants + 1)
         × (tree.hash ≡ entry.now.hash)) }
     ensures many { IfErr result (λ fault. 2 ^ 32 ≤ entry.now.descendants + 1) }
-    ensures fault { (o : Option (RecordMap TheRecord)) (next : ℕ) → IsRecord o node entry.now
-        → IfErr result (IsBrokenFault o next) }
+    ensures fault { (o : Option (RecordMap TheRecord)) (reach : Reach) → reach.node ≡ node
+        → IsRecord o node entry.now → IfErr result (IsMiscountedFault o reach) }
 {
     match entry.descendants.checked_add(1) {
         Some(nodes) => Ok(Tree {
@@ -65,7 +66,7 @@ pub(crate) fn remove<N: RecordsMut<NodeRecord>>(
         (N.gets nodes.old) (N.gets nodes.new)) }
     ensures same_mark { paths.new.marked ≡ paths.old.marked }
     ensures goes_on { GoesOn N.told N.faults N.has_mark N.marks nodes.old nodes.new }
-    ensures fault { IfErr result (ExplainsEdit next (N.told nodes.old) paths.old.paths
+    ensures fault { IfErr result (ExplainsEdit (model.remove node) next (N.told nodes.old) paths.old.paths
         (Rose (N.faults nodes.old) (N.faults nodes.new))) }
 {
     let Some(entry) = read(alloc, nodes, node)? else {
@@ -124,8 +125,11 @@ pub(crate) fn uproot<N: RecordsMut<NodeRecord>>(
     ensures same { N.told nodes.new ≡ N.told nodes.old }
     ensures same_mark { paths.new.marked ≡ paths.old.marked }
     ensures goes_on { GoesOn N.told N.faults N.has_mark N.marks nodes.old nodes.new }
-    ensures drifts { OnOk result (Drifts 0 (next + 1) paths.old.paths paths.new.paths) }
-    ensures fault { IfErr result (ExplainsBoth next (N.told nodes.old) paths.old.paths
+    ensures drifts { OnOk result ((visited : List TheRecord)
+        × (Walks preorder (N.told nodes.old) (first_tops entry.now.first) visited []
+        × Drifts 0 (paths_left visited ++ path_left entry.now) paths.old.paths paths.new.paths)) }
+    ensures fault { (reach : Reach) → reach.next ≡ next → reach.node ≡ node
+        → IfErr result (ExplainsBoth reach (N.told nodes.old) paths.old.paths
         (Rose (N.faults nodes.old) (N.faults nodes.new))) }
 {
     let mut gone = clear(alloc, nodes, paths, next, node, entry.first)?;

@@ -43,7 +43,7 @@ pub(crate) fn rename<N: RecordsMut<NodeRecord>>(
         (N.gets nodes.old) (N.gets nodes.new)) }
     ensures same_mark { paths.new.marked ≡ paths.old.marked }
     ensures goes_on { GoesOn N.told N.faults N.has_mark N.marks nodes.old nodes.new }
-    ensures fault { IfErr result (ExplainsEdit next (N.told nodes.old) paths.old.paths
+    ensures fault { IfErr result (ExplainsEdit (model.rename node name.now) next (N.told nodes.old) paths.old.paths
         (Rose (N.faults nodes.old) (N.faults nodes.new))) }
 {
     let Some(entry) = read(alloc, nodes, node)? else {

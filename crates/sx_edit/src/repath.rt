@@ -4,14 +4,15 @@ ghost use Rattle.sx_outside.specs.Faults.{Rose};
 ghost use Rattle.sx_tree.specs.declared.record.NodeRecord.{NodeRecord as TheRecord};
 ghost use Rattle.sx_model.specs.Records.{PathRow};
 ghost use Rattle.sx_view.specs.Records.{RecordMap};
-ghost use Rattle.sx_edit.specs.Damage.{IsBreachFault, IsRecord, LeadsTo, NeedsPath};
+ghost use Rattle.sx_model.specs.Edit as model;
+ghost use Rattle.sx_edit.specs.Damage.{IsBreachFault, NeedsPath, Reach};
 ghost use Rattle.sx_edit.specs.Drift.{Drifts, IsThere};
 ghost use Rattle.sx_edit.specs.EditFault.{ExplainsEdit, IsBreachEdit};
+ghost use Rattle.sx_edit.specs.Links.{ComesTo, IsRecord, LeadsTo, first_tops, path_left, paths_left};
 ghost use Rattle.sx_edit.specs.Pathways.{kept};
 ghost use Rattle.sx_edit.specs.Repath.{AllLead, AllThere, CannotExchange, IsExchanged, IsRepathed, IsUnder, StopsRepathing, StopsUnder, first_goals, goal_of, goals_of, with_goal};
 ghost use Rattle.sx_edit.specs.Seen.{entries_of};
 ghost use Rattle.sx_edit.specs.Steps.{GoesOn};
-ghost use Rattle.sx_edit.specs.Clear.{first_tops};
 ghost use Rattle.sx_edit.specs.Told.{IsWalked, numbers_of};
 
 use crate::damage::endless;
@@ -74,10 +75,10 @@ fn path_under(
     ensures stops { IfErr result (StopsUnder over.kind over.path label.now had paths.old.paths) }
     ensures same_mark { paths.new.marked ≡ paths.old.marked }
     ensures there { IsThere paths.old.paths over.path → IfOk result (λ number. IsThere paths.new.paths number) }
-    ensures drifts { OnOk result (Drifts 0 0 paths.old.paths paths.new.paths) }
-    ensures fault { (o : Option (RecordMap TheRecord)) (table : List PathRow) (next plus minus : ℕ)
-        → NeedsPath o next node → IsThere paths.old.paths over.path
-        → Drifts plus minus table paths.old.paths → IfErr result (IsBreachEdit o table next) }
+    ensures drifts { OnOk result (Drifts 0 [] paths.old.paths paths.new.paths) }
+    ensures fault { (o : Option (RecordMap TheRecord)) (table : List PathRow) (reach : Reach) (plus : ℕ) (minus : List ℕ)
+        → NeedsPath o reach node → IsThere paths.old.paths over.path
+        → Drifts plus minus table paths.old.paths → IfErr result (IsBreachEdit o table reach) }
 {
     match over.kind {
         Kind::Document => step_onto(alloc, paths, had, node, 0, Step::Top),
@@ -101,11 +102,14 @@ fn change_path(
     ensures done { OnOk result (IsExchanged kind old new paths.old.paths paths.new.paths) }
     ensures cannot { IfErr result (λ fault. CannotExchange kind old new paths.old.paths) }
     ensures same_mark { paths.new.marked ≡ paths.old.marked }
-    ensures drifts { OnOk result (Drifts 1 1 paths.old.paths paths.new.paths) }
-    ensures fault { (o : Option (RecordMap TheRecord)) (table : List PathRow) (next plus minus : ℕ) (own : TheRecord)
-        → IsRecord o node own → own.path ≡ old → IsThere paths.old.paths new
-        → Drifts plus minus table paths.old.paths → plus + 1 ≤ 2 ^ 30 → minus ≤ next
-        → IfErr result (IsBreachFault o table next) }
+    ensures drifts { (own : TheRecord) → own.kind ≡ kind → own.path ≡ old
+        → OnOk result (Drifts (length (path_left own)) (path_left own) paths.old.paths paths.new.paths) }
+    ensures fault { (o : Option (RecordMap TheRecord)) (table : List PathRow) (reach : Reach) (plus : ℕ)
+        (visited : List TheRecord) (own : TheRecord)
+        → IsRecord o node own → own.kind ≡ kind → own.path ≡ old → IsThere paths.old.paths new
+        → ComesTo o reach.node visited node → plus ≤ length (paths_left visited)
+        → length (paths_left visited) + 1 ≤ 2 ^ 30 → Drifts plus (paths_left visited) table paths.old.paths
+        → IfErr result (IsBreachFault o table reach) }
 {
     if is_value(kind) {
         count_out(paths, node, old)?;
@@ -142,8 +146,9 @@ pub(crate) fn repath<N: RecordsMut<NodeRecord>>(
     ensures same { N.told nodes.new ≡ N.told nodes.old }
     ensures same_mark { paths.new.marked ≡ paths.old.marked }
     ensures goes_on { GoesOn N.told N.faults N.has_mark N.marks nodes.old nodes.new }
-    ensures fault { (table : List PathRow) → IsThere paths.old.paths over.path
-        → Drifts 0 0 table paths.old.paths → next ≤ 2 ^ 30 → IfErr result (ExplainsEdit next (N.told nodes.old) table
+    ensures fault { (table : List PathRow) (name : List ℕ) (own : TheRecord) → IsRecord (N.told nodes.old) node own
+        → own.first ≡ first → IsThere paths.old.paths over.path → Drifts 0 [] table paths.old.paths → next ≤ 2 ^ 30
+        → IfErr result (ExplainsEdit (model.rename node name) next (N.told nodes.old) table
         (Rose (N.faults nodes.old) (N.faults nodes.new))) }
 {
     let mut moved: Vec<Seen> = Vec::new(alloc);

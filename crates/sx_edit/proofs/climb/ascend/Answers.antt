@@ -1,5 +1,7 @@
-use Rattle.std.proofs.Common.{◌+◌, ◌-◌, ◌∙◌, subst, refl, arith}
-use Rattle.sx_edit.specs.Damage.{IsRecord}
+use Rattle.std.proofs.Common.{◌+◌, ◌-◌, ◌∙◌, [], ◌∷◌, ◌++◌, inr, subst, refl, arith}
+use Rattle.sx_edit.specs.Damage.{to_parent}
+use Rattle.sx_edit.specs.Links.{IsRecord, Walks, first_tops}
+use Rattle.sx_edit.proofs.Visiting.{long-on, walks-endless, walks-on}
 use Rattle.sx_edit.specs.Room.{CountsLevels}
 use Rattle.sx_edit.proofs.Results.{err_again, pushed-length}
 use Rattle.sx_edit.proofs.Going.{endless_explains, err-explains, goes_then, leads-parent, leads-reached, reached-one, reached-there}
@@ -26,7 +28,9 @@ pub returns-in-Some-at-clause-cannot : goal.returns-in-Some-at-clause-cannot
 returns-in-Some-at-clause-cannot g c = λ _. c.loop-turn.invariant.counts _ (counts-endless _ _ _ _ c.in-Some-at.is (omega arith))
 
 pub returns-in-Some-at-clause-fault : goal.returns-in-Some-at-clause-fault
-returns-in-Some-at-clause-fault g c = endless_explains _ _ _ c.endless.ensures
+returns-in-Some-at-clause-fault g c =
+    let met = c.loop-turn.invariant.met in
+    endless_explains _ _ _ (inr (inr (walks-endless to_parent _ c.args.next c.args.node met.0 _ [] (subst (λ at. Walks to_parent (g.N.Records.told c.args.nodes.now) (first_tops c.args.node) met.0 (first_tops at)) c.in-Some-at.is met.1.0) (met.1.1 ∙ omega arith)))) c.endless.ensures
 
 pub returns-in_err-record-clause-cannot : goal.returns-in_err-record-clause-cannot
 returns-in_err-record-clause-cannot g c =
@@ -51,6 +55,13 @@ loop-turn-preserved g c =
           (counts-next _ _ _ _ record_is _ rest c.in-Some.is c.in_ok-record.ensures.found (omega arith)
           (subst (λ o. CountsLevels record_is.parent (c.args.next - (c.loop-turn._turn + 1)) o rest) c.in_ok-record.ensures.same more)));
       few = omega (arith, c.levels-count.ensures.few, inv.few);
+      met = (
+        inv.met.0 ++ record_is ∷ [],
+        (
+          walks-on to_parent _ _ inv.met.0 c.in-Some.number [] record_is (subst (λ at. Walks to_parent (g.N.Records.told c.args.nodes.now) (first_tops c.args.node) inv.met.0 (first_tops at)) c.in-Some.is inv.met.1.0) there,
+          long-on inv.met.0 record_is _ inv.met.1.1,
+        ),
+      );
       reached = leads-reached (told c.args.nodes.now) c.in-Some.number record_is.parent (leads-parent (told c.args.nodes.now) c.in-Some.number record_is there record_is.parent refl);
       gets = omega (arith, inv.gets, c.in_ok-record.ensures.gets, pushed-length _ _ _ c.in_ok-push_seen.ensures);
       same = c.in_ok-record.ensures.same ∙ inv.same;

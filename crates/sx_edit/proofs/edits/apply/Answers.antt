@@ -1,4 +1,5 @@
 use Rattle.std.proofs.Common.{ap}
+use Rattle.sx_model.specs.Edit.{edit_of}
 use Rattle.sx_edit.proofs.Results.{on_ok-then}
 use Rattle.sx_edit.proofs.Answering.{settled-answers, settled-explains}
 use Rattle.sx_edit.proofs.Getting.{settled-work}
@@ -11,7 +12,7 @@ returns-clause-answers g c =
 
 pub returns-clause-fault : goal.returns-clause-fault
 returns-clause-fault g c =
-    settled-explains _ _ _ _ _ _ _ _ _ c.settle.result c.change-outcome.result (g.met.N.RecordsMut.same_told _ _ c.begin.ensures.same) (ap (λ t. t.paths) c.begin-2.ensures) c.begin.ensures.never_falls c.settle.ensures.never_falls c.settle.ensures.same c.change-outcome.ensures.fault
+    settled-explains (edit_of c.args.edit.now) _ _ _ _ _ _ _ _ _ c.settle.result c.change-outcome.result (g.met.N.RecordsMut.same_told _ _ c.begin.ensures.same) (ap (λ t. t.paths) c.begin-2.ensures) c.begin.ensures.never_falls c.settle.ensures.never_falls c.settle.ensures.same c.change-outcome.ensures.fault
 
 pub returns-clause-work : goal.returns-clause-work
 returns-clause-work g c =

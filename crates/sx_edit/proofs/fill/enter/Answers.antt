@@ -1,7 +1,8 @@
 use Rattle.std.proofs.Common.{arith}
 use Rattle.sx_edit.proofs.Results.{err_again}
-use Rattle.sx_edit.proofs.Drifting.{known-new}
-use Rattle.sx_edit.proofs.Growing.{down-top, key-entered, under_key}
+use Rattle.sx_tree.specs.Value.{value_of}
+use Rattle.sx_edit.proofs.Drifting.{known-on}
+use Rattle.sx_edit.proofs.Growing.{down-top, key-entered, some-nodes, under_key}
 use Rattle.sx_edit.proofs.Stopping.{memory-stops_growing}
 use Rattle.sx_edit.proofs.fill.enter.Goals as goal
 
@@ -20,16 +21,18 @@ returns-in_ok-key_over-in-Some-clause-grown g c =
 
 pub returns-in_err-top-in-Some-clause-fault : goal.returns-in_err-top-in-Some-clause-fault
 returns-in_err-top-in-Some-clause-fault g c =
-    λ o table minus known drifts.
-    let fits = rw c.in-Some.is at c.requires.room in
+    λ o table reach minus next_is more known drifts.
+    let come = rw c.in-Some.is at more in
     err_again c.from_residual.result _ _ c.from_residual.ensures.1
-    (c.in_err-top-in-Some.ensures.fault o table c.args.next 0 minus (omega arith) (known-new o c.args.next c.args.next _ _ _ (omega arith) known) drifts (omega (arith, fits)))
+    (c.in_err-top-in-Some.ensures.fault o table reach 0 minus (omega (arith, next_is)) (omega (arith, next_is, come))
+    (known-on o reach _ _ _ (omega (arith, next_is), omega (arith, next_is, come, some-nodes (value_of c.args.value.now))) known) drifts)
 
 pub returns-in_err-key_over-in-Some-clause-stops : goal.returns-in_err-key_over-in-Some-clause-stops
 returns-in_err-key_over-in-Some-clause-stops g c =
     memory-stops_growing _ _ _ _ _ c.from_residual-in_err-key_over-in-Some.result c.from_residual-in_err-key_over-in-Some.ensures.1
 
 pub returns-in-None-clause-fault : goal.returns-in-None-clause-fault
-returns-in-None-clause-fault g c = λ o table minus known drifts.
-    let fits = rw c.in-None.is at c.requires.room in
-    c.grow.ensures.fault o table c.args.next 0 minus (omega arith) known drifts (omega (arith, fits))
+returns-in-None-clause-fault g c = λ o table reach minus next_is more known drifts.
+    let come = rw c.in-None.is at more in
+    c.grow.ensures.fault o table reach 0 minus (omega (arith, next_is)) (omega (arith, next_is, come))
+    (known-on o reach _ _ _ (omega (arith, next_is), omega (arith, next_is, come, some-nodes (value_of c.args.value.now))) known) drifts

@@ -1,4 +1,4 @@
-use Rattle.std.proofs.Common.{refl, arith}
+use Rattle.std.proofs.Common.{◌∙◌, refl, sym, arith}
 use Rattle.std.specs.Option.{option_copied}
 use Rattle.sx_tree.specs.Value.{value_of}
 use Rattle.sx_edit.specs.Fill.{enters}
@@ -17,13 +17,13 @@ returns-in_err-top-clause-stops g c =
     (growing-stops _ _ _ _ (enters (option_copied c.args.name) (value_of c.args.value.now) c.args.path c.args.had) (kept (g.N.Records.told c.args.nodes.now) c.args.paths.now.paths) _ c.in_err-top.ensures.stops)
 
 pub returns-in_err-top-clause-fault : goal.returns-in_err-top-clause-fault
-returns-in_err-top-clause-fault g c = λ o table minus goes rim known drifts.
-    err_again c.from_residual.result _ _ c.from_residual.ensures.1 (breach-broken o table c.args.next _ (c.in_err-top.ensures.fault o table minus known drifts))
+returns-in_err-top-clause-fault g c = λ o table reach minus next_is more rim leaving known drifts.
+    err_again c.from_residual.result _ _ c.from_residual.ensures.1 (breach-broken o table reach _ (c.in_err-top.ensures.fault o table reach minus next_is more known drifts))
 
 pub returns-in_err-mend-clause-fault : goal.returns-in_err-mend-clause-fault
-returns-in_err-mend-clause-fault g c = λ o table minus goes rim known drifts.
+returns-in_err-mend-clause-fault g c = λ o table reach minus next_is more rim leaving known drifts.
     err_again c.from_residual-in_err-mend.result _ _ c.from_residual-in_err-mend.ensures.1
-    (broken-edit o table c.args.next _ (c.in_err-mend.ensures.fault o c.args.next (omega (arith, c.requires.room, down-entering _ _ _ _ c.in_ok-top.top c.in_ok-top.ensures.top)) goes rim))
+    (broken-edit o table reach _ (c.in_err-mend.ensures.fault o reach (down-entering _ _ _ _ c.in_ok-top.top c.in_ok-top.ensures.top ∙ sym more) leaving rim))
 
 pub returns-in_err-add-clause-stops : goal.returns-in_err-add-clause-stops
 returns-in_err-add-clause-stops g c = memory-stops_filling _ _ _ _ _ _ c.from_residual-in_err-add.result c.from_residual-in_err-add.ensures.1

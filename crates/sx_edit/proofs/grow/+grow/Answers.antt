@@ -1,9 +1,9 @@
-use Rattle.std.proofs.Common.{inl, inr, rules, arith, refl, suc, take, ◌+◌, ◌∙◌}
+use Rattle.std.proofs.Common.{[], inl, inr, rules, arith, refl, suc, take, ◌+◌, ◌-◌, ◌∙◌}
 use Rattle.sx_tree.specs.Value.{value_of, values_of, fields_of, nodes}
 use Rattle.sx_tree.specs.declared.json.Json.{the_lemmas}
-use Rattle.sx_edit.proofs.Drifting.{drifts-itself, drifts-then, drifts-within, there-on}
+use Rattle.sx_edit.proofs.Drifting.{drifts-itself, drifts-on, drifts-within, there-on}
 use Rattle.sx_edit.proofs.Going.{goes_itself, goes_then}
-use Rattle.sx_edit.proofs.Growing.{array-grown, members-so_far, values-so_far, members-more, named-onto, nodes-top, object-grown, scalar-grown, size-numbered_fields, size-numbered_values, values-more, hung-as, hung-long, down-key, down-top, hung-right, items-room, items-turn, left_over, member-there, members-long, members-room, members-turn, none-hung}
+use Rattle.sx_edit.proofs.Growing.{array-grown, members-so_far, values-so_far, members-more, named-onto, nodes-top, object-grown, scalar-grown, size-numbered_fields, size-numbered_values, values-more, hung-as, hung-long, down-key, down-top, hung-right, items-room, items-turn, left_over, some-nodes, member-there, members-long, members-room, members-turn, none-hung}
 use Rattle.sx_edit.proofs.Results.{err_again}
 use Rattle.sx_edit.proofs.Stopping.{array-drifts, array-fits, array-stops, child-stops, fault-breach, items-among, memory-stops_growing, named-stops, names-among, object-drifts, object-fits, object-stops, onto-stops, uncounted-stops}
 use Rattle.sx_edit.proofs.grow.+grow.Goals as goal
@@ -36,7 +36,7 @@ grow_items-loop-place-init g t c =
     let made = c.no_children-children.ensures in
     record {
       hung = none-hung _ _ _ _ _ made.first made.last made.count made.nodes made.hash;
-      drifts = drifts-itself _ 0 _;
+      drifts = drifts-itself _ [] _;
       same_mark = refl;
       same_gets = refl;
       goes_on = goes_itself g.N.Records.told g.N.Records.faults g.N.RecordsMut.has_mark g.N.RecordsMut.marks _;
@@ -52,8 +52,8 @@ grow_items-loop-place-preserved g t c =
     record {
       hung = hung-as _ _ _ _ _ _ _ _ _ _ _ _ done.children (items-turn _ _ _ _ xs _ _ _ _ _ _ _ _ _ _ here c.index-values-place.is (hung-right _ _ _ _ _ _ _ _ _ here c.loop-place.invariant.hung)
           c.in_ok-on.ensures.onto grown.top grown.grown done.children done.added);
-      drifts = drifts-then c.loop-place.children.nodes 0 (nodes (value_of c.index-values-place.result)) 0 c.in_ok-children.children.nodes 0 (omega (arith, done.children.nodes, down-top _ _ _ _ grown.top)) (omega arith) _ _ _ c.loop-place.invariant.drifts
-          (drifts-then 0 0 (nodes (value_of c.index-values-place.result)) 0 (nodes (value_of c.index-values-place.result)) 0 (omega arith) (omega arith) _ _ _ c.in_ok-on.ensures.drifts grown.drifts);
+      drifts = drifts-on c.loop-place.children.nodes (nodes (value_of c.index-values-place.result)) c.in_ok-children.children.nodes [] _ _ _ (omega (arith, done.children.nodes, down-top _ _ _ _ grown.top)) c.loop-place.invariant.drifts
+          (drifts-on 0 (nodes (value_of c.index-values-place.result)) (nodes (value_of c.index-values-place.result)) [] _ _ _ (omega arith) c.in_ok-on.ensures.drifts grown.drifts);
       same_mark = grown.same_mark ∙ c.in_ok-on.ensures.same_mark ∙ c.loop-place.invariant.same_mark;
       same_gets = done.same_gets ∙ grown.same_gets ∙ c.loop-place.invariant.same_gets;
       goes_on = then_on _ _ _ (then_on _ _ _ c.loop-place.invariant.goes_on grown.goes_on) done.goes_on;
@@ -64,7 +64,7 @@ grow_members-loop-place-init g t c =
     let made = c.no_children-children.ensures in
     record {
       hung = none-hung _ _ _ _ _ made.first made.last made.count made.nodes made.hash;
-      drifts = drifts-itself _ 0 _;
+      drifts = drifts-itself _ [] _;
       same_mark = refl;
       same_gets = refl;
       goes_on = goes_itself g.N.Records.told g.N.Records.faults g.N.RecordsMut.has_mark g.N.RecordsMut.marks _;
@@ -116,8 +116,8 @@ grow_members-loop-place-preserved g t c =
       hung = hung-as _ _ _ _ _ _ _ _ _ _ _ _ done.children (hung-long _ _ _ _ _ _ _ _ _ _ (members-long _ _ c.values-values.ensures.same)
           (members-turn _ _ _ _ _ _ _ _ _ _ c.in_ok-key.key _ _ _ _ _ _ _ there (hung-right _ _ _ _ _ _ _ _ _ there.here c.loop-place.invariant.hung)
           (omega arith) (named-onto _ _ _ _ _ _ c.in_ok-step.ensures c.in_ok-on.ensures.onto) grown.top grown.grown over.added over.key done.children done.added));
-      drifts = drifts-then c.loop-place.children.nodes 0 (nodes (value_of c.index-values-place.result)) 0 c.in_ok-children.children.nodes 0 (omega (arith, done.children.nodes, down-key _ _ _ _ _ _ c.in_ok-key.key (omega arith) over.key grown.top)) (omega arith) _ _ _ c.loop-place.invariant.drifts
-          (drifts-then 0 0 (nodes (value_of c.index-values-place.result)) 0 (nodes (value_of c.index-values-place.result)) 0 (omega arith) (omega arith) _ _ _ c.in_ok-on.ensures.drifts grown.drifts);
+      drifts = drifts-on c.loop-place.children.nodes (nodes (value_of c.index-values-place.result)) c.in_ok-children.children.nodes [] _ _ _ (omega (arith, done.children.nodes, down-key _ _ _ _ _ _ c.in_ok-key.key (omega arith) over.key grown.top)) c.loop-place.invariant.drifts
+          (drifts-on 0 (nodes (value_of c.index-values-place.result)) (nodes (value_of c.index-values-place.result)) [] _ _ _ (omega arith) c.in_ok-on.ensures.drifts grown.drifts);
       same_mark = grown.same_mark ∙ c.in_ok-on.ensures.same_mark ∙ c.loop-place.invariant.same_mark;
       same_gets = done.same_gets ∙ over.same_gets ∙ grown.same_gets ∙ c.loop-place.invariant.same_gets;
       goes_on = then_on _ _ _ (then_on _ _ _ (then_on _ _ _ c.loop-place.invariant.goes_on grown.goes_on) over.goes_on) done.goes_on;
@@ -130,8 +130,11 @@ grow-returns-in_err-count_in-clause-stops g t c =
     uncounted-stops _ _ _ _ _ _ c.from_residual.result _ (omega (arith, nodes-top (value_of c.args.value.now) 0)) c.from_residual.ensures.1 c.in_err-count_in.ensures.cannot
 
 pub grow-returns-in_err-count_in-clause-fault : goal.grow-returns-in_err-count_in-clause-fault
-grow-returns-in_err-count_in-clause-fault g t c = λ o table next plus minus low known drifts few.
-    fault-breach o table next c.from_residual.result _ c.from_residual.ensures.1 (c.in_err-count_in.ensures.fault o table next plus minus (inr low) known drifts (omega (arith, few, nodes-top (value_of c.args.value.now) 0)))
+grow-returns-in_err-count_in-clause-fault g t c = λ o table reach plus minus low high known drifts.
+    let some = some-nodes (value_of c.args.value.now) in
+    let room = c.requires.room in
+    fault-breach o table reach c.from_residual.result _ c.from_residual.ensures.1
+    (c.in_err-count_in.ensures.fault o table reach plus minus (c.args.number - reach.next) known (inl ((omega (arith, low), omega (arith, high, some)), omega (arith, low))) (omega (arith, low)) (omega (arith, room, some)) drifts)
 
 pub grow-returns-in_err-label-in-Scalar-clause-stops : goal.grow-returns-in_err-label-in-Scalar-clause-stops
 grow-returns-in_err-label-in-Scalar-clause-stops g t c = memory-stops_growing _ _ _ _ _ c.from_residual-in_err-label-in-Scalar.result c.from_residual-in_err-label-in-Scalar.ensures.1
@@ -144,17 +147,17 @@ grow-returns-in_err-text-in-Object-clause-stops g t c = memory-stops_growing _ _
 
 pub grow-returns-in_err-below-in-Array-clause-fault : goal.grow-returns-in_err-below-in-Array-clause-fault
 grow-returns-in_err-below-in-Array-clause-fault g t c =
-    λ o table next plus minus low known drifts few.
+    λ o table reach plus minus low high known drifts.
     err_again c.from_residual-in_err-below-in-Array.result _ _ c.from_residual-in_err-below-in-Array.ensures.1
-    (c.in_err-below-in-Array.ensures.fault o table next (plus + 1) minus low c.in_ok-count_in.ensures.there
-    (drifts-then plus minus 1 0 _ _ (omega arith) (omega arith) _ _ _ drifts c.in_ok-count_in.ensures.drifts) (array-fits plus (value_of c.args.value.now) _ few (rw c.in-Array.is (search (rules, the_lemmas)))))
+    (c.in_err-below-in-Array.ensures.fault o table reach (plus + 1) minus (omega (arith, low)) (array-fits c.args.number _ (value_of c.args.value.now) _ high (rw c.in-Array.is (search (rules, the_lemmas)))) c.in_ok-count_in.ensures.there
+    (drifts-on plus 1 (plus + 1) minus _ _ _ (omega arith) drifts c.in_ok-count_in.ensures.drifts))
 
 pub grow-returns-in_err-below-in-Object-clause-fault : goal.grow-returns-in_err-below-in-Object-clause-fault
 grow-returns-in_err-below-in-Object-clause-fault g t c =
-    λ o table next plus minus low known drifts few.
+    λ o table reach plus minus low high known drifts.
     err_again c.from_residual-in_err-below-in-Object.result _ _ c.from_residual-in_err-below-in-Object.ensures.1
-    (c.in_err-below-in-Object.ensures.fault o table next (plus + 1) minus low c.in_ok-count_in.ensures.there
-    (drifts-then plus minus 1 0 _ _ (omega arith) (omega arith) _ _ _ drifts c.in_ok-count_in.ensures.drifts) (object-fits plus (value_of c.args.value.now) _ few (rw c.in-Object.is (search (rules, the_lemmas)))))
+    (c.in_err-below-in-Object.ensures.fault o table reach (plus + 1) minus (omega (arith, low)) (object-fits c.args.number _ (value_of c.args.value.now) _ high (rw c.in-Object.is (search (rules, the_lemmas)))) c.in_ok-count_in.ensures.there
+    (drifts-on plus 1 (plus + 1) minus _ _ _ (omega arith) drifts c.in_ok-count_in.ensures.drifts))
 
 pub grow-returns-in_err-below-in-Array-clause-stops : goal.grow-returns-in_err-below-in-Array-clause-stops
 grow-returns-in_err-below-in-Array-clause-stops g t c =
@@ -184,10 +187,13 @@ grow_items-returns-in_err-on-clause-stops g t c =
     (onto-stops _ _ _ _ _ _ _ _ _ hung (value_of c.index-values-place.result) _ _ _ _ (items-among _ _ _ _ _ _ _ _ _ c.loop-place-test.true c.index-values-place.is hung) c.in_err-on.ensures.stops)
 
 pub grow_items-returns-in_err-on-clause-fault : goal.grow_items-returns-in_err-on-clause-fault
-grow_items-returns-in_err-on-clause-fault g t c = λ o table next plus minus low there drifts few.
+grow_items-returns-in_err-on-clause-fault g t c = λ o table reach plus minus low high there drifts.
+    let many = values-more c.args.values.now c.loop-place.place c.index-values-place.result c.loop-place-test.true c.index-values-place.is in
+    let so_far = c.loop-place.invariant.hung.kept_is.nodes ∙ size-numbered_values (values_of (take c.loop-place.place c.args.values.now)) (suc c.args.parent) in
+    let some = some-nodes (value_of c.index-values-place.result) in
     err_again c.from_residual.result _ _ c.from_residual.ensures.1
-    (c.in_err-on.ensures.fault o table next (plus + c.loop-place.children.nodes) minus (inr (omega arith)) (inr (inl (there-on _ 0 _ _ _ c.loop-place.invariant.drifts there)))
-    (drifts-then plus minus c.loop-place.children.nodes 0 _ _ (omega arith) (omega arith) _ _ _ drifts c.loop-place.invariant.drifts))
+    (c.in_err-on.ensures.fault o table reach (plus + c.loop-place.children.nodes) minus (inr (omega (arith, low), omega (arith, high, many, so_far, some))) (inr (inl (there-on _ [] _ _ _ c.loop-place.invariant.drifts there)))
+    (drifts-on plus c.loop-place.children.nodes (plus + c.loop-place.children.nodes) minus _ _ _ (omega arith) drifts c.loop-place.invariant.drifts))
 
 pub grow_items-returns-in_err-top-clause-stops : goal.grow_items-returns-in_err-top-clause-stops
 grow_items-returns-in_err-top-clause-stops g t c =
@@ -198,14 +204,13 @@ grow_items-returns-in_err-top-clause-stops g t c =
     (omega (arith, many, size-numbered_values (values_of (take c.loop-place.place c.args.values.now)) (suc c.args.parent))) c.in_ok-on.ensures.onto c.in_err-top.ensures.stops)
 
 pub grow_items-returns-in_err-top-clause-fault : goal.grow_items-returns-in_err-top-clause-fault
-grow_items-returns-in_err-top-clause-fault g t c = λ o table next plus minus low there drifts few.
+grow_items-returns-in_err-top-clause-fault g t c = λ o table reach plus minus low high there drifts.
     let many = values-more c.args.values.now c.loop-place.place c.index-values-place.result c.loop-place-test.true c.index-values-place.is in
     let so_far = c.loop-place.invariant.hung.kept_is.nodes ∙ size-numbered_values (values_of (take c.loop-place.place c.args.values.now)) (suc c.args.parent) in
     err_again c.from_residual-in_err-top.result _ _ c.from_residual-in_err-top.ensures.1
-    (c.in_err-top.ensures.fault o table next (plus + c.loop-place.children.nodes) minus (omega arith) (inl c.in_ok-on.ensures.there)
-    (drifts-then (plus + c.loop-place.children.nodes) minus 0 0 _ _ (omega arith) (omega arith) _ _ _
-    (drifts-then plus minus c.loop-place.children.nodes 0 _ _ (omega arith) (omega arith) _ _ _ drifts c.loop-place.invariant.drifts) c.in_ok-on.ensures.drifts)
-    (omega (arith, few, many, so_far)))
+    (c.in_err-top.ensures.fault o table reach (plus + c.loop-place.children.nodes) minus (omega (arith, low)) (omega (arith, high, many, so_far)) (inl c.in_ok-on.ensures.there)
+    (drifts-on (plus + c.loop-place.children.nodes) 0 (plus + c.loop-place.children.nodes) minus _ _ _ (omega arith)
+    (drifts-on plus c.loop-place.children.nodes (plus + c.loop-place.children.nodes) minus _ _ _ (omega arith) drifts c.loop-place.invariant.drifts) c.in_ok-on.ensures.drifts))
 
 pub grow_items-returns-in_err-children-clause-stops : goal.grow_items-returns-in_err-children-clause-stops
 grow_items-returns-in_err-children-clause-stops g t c = memory-stops_growing _ _ _ _ _ c.from_residual-in_err-children.result c.from_residual-in_err-children.ensures.1
@@ -222,10 +227,13 @@ grow_members-returns-in_err-on-clause-stops g t c =
     (named-stops _ _ _ _ _ _ c.in_ok-step.ensures c.in_err-on.ensures.stops))
 
 pub grow_members-returns-in_err-on-clause-fault : goal.grow_members-returns-in_err-on-clause-fault
-grow_members-returns-in_err-on-clause-fault g t c = λ o table next plus minus low there drifts few.
+grow_members-returns-in_err-on-clause-fault g t c = λ o table reach plus minus low high there drifts.
+    let there_is = member-there _ _ _ _ _ _ c.names-names.ensures.same c.values-values.ensures.same c.loop-place-test.true c.index-names-place.is c.index-values-place.is in
+    let many = members-more _ _ _ there_is in
+    let so_far = c.loop-place.invariant.hung.kept_is.nodes ∙ size-numbered_fields (fields_of (take c.loop-place.place c.args.members.now)) (suc c.args.parent) in
     err_again c.from_residual-in_err-on.result _ _ c.from_residual-in_err-on.ensures.1
-    (c.in_err-on.ensures.fault o table next (plus + c.loop-place.children.nodes) minus (inr (omega arith)) (inr (inl (there-on _ 0 _ _ _ c.loop-place.invariant.drifts there)))
-    (drifts-then plus minus c.loop-place.children.nodes 0 _ _ (omega arith) (omega arith) _ _ _ drifts c.loop-place.invariant.drifts))
+    (c.in_err-on.ensures.fault o table reach (plus + c.loop-place.children.nodes) minus (inr (omega (arith, low), omega (arith, high, many, so_far))) (inr (inl (there-on _ [] _ _ _ c.loop-place.invariant.drifts there)))
+    (drifts-on plus c.loop-place.children.nodes (plus + c.loop-place.children.nodes) minus _ _ _ (omega arith) drifts c.loop-place.invariant.drifts))
 
 pub grow_members-returns-in_err-top-clause-stops : goal.grow_members-returns-in_err-top-clause-stops
 grow_members-returns-in_err-top-clause-stops g t c =
@@ -237,15 +245,14 @@ grow_members-returns-in_err-top-clause-stops g t c =
     (named-onto _ _ _ _ _ _ c.in_ok-step.ensures c.in_ok-on.ensures.onto) c.in_err-top.ensures.stops)
 
 pub grow_members-returns-in_err-top-clause-fault : goal.grow_members-returns-in_err-top-clause-fault
-grow_members-returns-in_err-top-clause-fault g t c = λ o table next plus minus low there drifts few.
+grow_members-returns-in_err-top-clause-fault g t c = λ o table reach plus minus low high there drifts.
     let there_is = member-there _ _ _ _ _ _ c.names-names.ensures.same c.values-values.ensures.same c.loop-place-test.true c.index-names-place.is c.index-values-place.is in
     let many = members-more _ _ _ there_is in
     let so_far = c.loop-place.invariant.hung.kept_is.nodes ∙ size-numbered_fields (fields_of (take c.loop-place.place c.args.members.now)) (suc c.args.parent) in
     err_again c.from_residual-in_err-top.result _ _ c.from_residual-in_err-top.ensures.1
-    (c.in_err-top.ensures.fault o table next (plus + c.loop-place.children.nodes) minus (omega arith) (inl c.in_ok-on.ensures.there)
-    (drifts-then (plus + c.loop-place.children.nodes) minus 0 0 _ _ (omega arith) (omega arith) _ _ _
-    (drifts-then plus minus c.loop-place.children.nodes 0 _ _ (omega arith) (omega arith) _ _ _ drifts c.loop-place.invariant.drifts) c.in_ok-on.ensures.drifts)
-    (omega (arith, few, many, so_far)))
+    (c.in_err-top.ensures.fault o table reach (plus + c.loop-place.children.nodes) minus (omega (arith, low)) (omega (arith, high, many, so_far)) (inl c.in_ok-on.ensures.there)
+    (drifts-on (plus + c.loop-place.children.nodes) 0 (plus + c.loop-place.children.nodes) minus _ _ _ (omega arith)
+    (drifts-on plus c.loop-place.children.nodes (plus + c.loop-place.children.nodes) minus _ _ _ (omega arith) drifts c.loop-place.invariant.drifts) c.in_ok-on.ensures.drifts))
 
 pub grow_members-returns-in_err-key-clause-stops : goal.grow_members-returns-in_err-key-clause-stops
 grow_members-returns-in_err-key-clause-stops g t c = memory-stops_growing _ _ _ _ _ c.from_residual-in_err-key.result c.from_residual-in_err-key.ensures.1
@@ -256,7 +263,7 @@ grow_members-returns-in_err-children-clause-stops g t c = memory-stops_growing _
 -- ---- how far the table is
 
 pub grow-returns-in_ok-label-in-Scalar-clause-drifts : goal.grow-returns-in_ok-label-in-Scalar-clause-drifts
-grow-returns-in_ok-label-in-Scalar-clause-drifts g t c = drifts-within 1 0 _ _ _ _ (omega (arith, nodes-top (value_of c.args.value.now) 0)) (omega arith) c.in_ok-count_in.ensures.drifts
+grow-returns-in_ok-label-in-Scalar-clause-drifts g t c = drifts-within 1 _ [] _ _ (some-nodes (value_of c.args.value.now)) c.in_ok-count_in.ensures.drifts
 
 pub grow-returns-in_ok-text-in-Array-clause-drifts : goal.grow-returns-in_ok-text-in-Array-clause-drifts
 grow-returns-in_ok-text-in-Array-clause-drifts g t c =
@@ -269,9 +276,9 @@ grow-returns-in_ok-text-in-Object-clause-drifts g t c =
 pub grow_items-returns-clause-drifts : goal.grow_items-returns-clause-drifts
 grow_items-returns-clause-drifts g t c =
     let so_far = c.loop-place.invariant.hung.kept_is.nodes ∙ size-numbered_values (values_of (take c.loop-place.place c.args.values.now)) (suc c.args.parent) in
-    drifts-within c.loop-place.children.nodes 0 _ 0 _ _ (omega (arith, so_far, values-so_far c.args.values.now c.loop-place.place)) (omega arith) c.loop-place.invariant.drifts
+    drifts-within c.loop-place.children.nodes _ [] _ _ (omega (arith, so_far, values-so_far c.args.values.now c.loop-place.place)) c.loop-place.invariant.drifts
 
 pub grow_members-returns-clause-drifts : goal.grow_members-returns-clause-drifts
 grow_members-returns-clause-drifts g t c =
     let so_far = c.loop-place.invariant.hung.kept_is.nodes ∙ size-numbered_fields (fields_of (take c.loop-place.place c.args.members.now)) (suc c.args.parent) in
-    drifts-within c.loop-place.children.nodes 0 _ 0 _ _ (omega (arith, so_far, members-so_far c.args.members.now c.loop-place.place)) (omega arith) c.loop-place.invariant.drifts
+    drifts-within c.loop-place.children.nodes _ [] _ _ (omega (arith, so_far, members-so_far c.args.members.now c.loop-place.place)) c.loop-place.invariant.drifts

@@ -1,4 +1,4 @@
-use Rattle.std.proofs.Common.{◌≡◌, ◌+◌, suc, length, nat_lt, take}
+use Rattle.std.proofs.Common.{◌≡◌, ◌+◌, [], suc, length, nat_lt, take}
 use Rattle.sx_tree.specs.Value.{values_of, fields_of}
 use Rattle.sx_model.specs.Numbered.{numbered_values, numbered_fields}
 use Rattle.sx_edit.specs.Drift.{Drifts}
@@ -15,7 +15,7 @@ invariant-grow_items-loop-place g l =
     record {
       hung : IsHung (array_node l.parent) l.path (only_if (nat_lt l.place (length l.values)) (l.parent + 1 + l.children.nodes)) l.children
           (numbered_values (values_of (take l.place l.values)) (suc l.parent)) (kept (told l.initial.nodes) l.initial.paths.paths) (kept (told l.nodes) l.paths.paths);
-      drifts : Drifts l.children.nodes 0 l.initial.paths.paths l.paths.paths;
+      drifts : Drifts l.children.nodes [] l.initial.paths.paths l.paths.paths;
       same_mark : l.paths.marked ≡ l.initial.paths.marked;
       same_gets : g.N.Records.gets l.nodes ≡ g.N.Records.gets l.initial.nodes;
       goes_on : GoesOn told g.N.Records.faults g.N.RecordsMut.has_mark g.N.RecordsMut.marks l.initial.nodes l.nodes;
@@ -27,7 +27,7 @@ invariant-grow_members-loop-place g l =
     record {
       hung : IsHung (object_node l.parent) l.path (only_if (nat_lt l.place (length l.members)) (l.parent + 1 + l.children.nodes)) l.children
           (numbered_fields (fields_of (take l.place l.members)) (suc l.parent)) (kept (told l.initial.nodes) l.initial.paths.paths) (kept (told l.nodes) l.paths.paths);
-      drifts : Drifts l.children.nodes 0 l.initial.paths.paths l.paths.paths;
+      drifts : Drifts l.children.nodes [] l.initial.paths.paths l.paths.paths;
       same_mark : l.paths.marked ≡ l.initial.paths.marked;
       same_gets : g.N.Records.gets l.nodes ≡ g.N.Records.gets l.initial.nodes;
       goes_on : GoesOn told g.N.Records.faults g.N.RecordsMut.has_mark g.N.RecordsMut.marks l.initial.nodes l.nodes;

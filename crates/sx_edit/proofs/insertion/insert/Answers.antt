@@ -1,14 +1,17 @@
-use Rattle.std.proofs.Common.{inl, inr, arith, refl, subst, sym, ◌∙◌}
+use Rattle.std.proofs.Common.{[], inl, inr, arith, refl, subst, sym, ◌∙◌}
 use Rattle.std.specs.Option.{option_copied}
 use Rattle.sx_tree.specs.Value.{value_of}
 use Rattle.sx_edit.proofs.Going.{gap-there, goes_itself, goes_then, leads-there}
 use Rattle.sx_edit.proofs.Answering.{again-answers, again-explains_edit, broken_edit-explains, err-answers, err-explains_edit, refused-explains}
 use Rattle.sx_edit.proofs.Inserting.{checks-there, count-below, entering-room, insert-done, insert-no_room, insert-path_stops, insert-stops, insert-unchecked, insert-unnamed, insert-unplaced, inserting-after, named-below, place-cannot}
+use Rattle.sx_model.specs.Edit.{insert}
+use Rattle.sx_edit.specs.Damage.{IsNew, reach_of}
 use Rattle.sx_edit.specs.Gets.{GetsChildren}
 use Rattle.sx_edit.proofs.Getting.{insert-gets}
 use Rattle.sx_edit.proofs.Results.{err_again}
 use Rattle.sx_edit.proofs.Splicing.{rim-there}
-use Rattle.sx_edit.proofs.Drifting.{drifts-itself}
+use Rattle.sx_edit.proofs.Drifting.{base-of, drifts-itself}
+use Rattle.sx_edit.proofs.Filling.{coming-entering, some-coming}
 use Rattle.sx_edit.proofs.Stopping.{breach-edit_explains}
 use Rattle.sx_edit.proofs.insertion.insert.Goals as goal
 
@@ -17,8 +20,8 @@ returns-in_err-target-clause-answers g c = insert-unplaced _ _ _ _ _ _ _ _ c.fro
 
 pub returns-in_err-target-clause-fault : goal.returns-in_err-target-clause-fault
 returns-in_err-target-clause-fault g c =
-    again-explains_edit g.N.Records.told g.N.Records.faults g.N.RecordsMut.has_mark g.N.RecordsMut.marks c.args.next _ c.args.nodes.now c.args.nodes.now _ c.from_residual.result _ c.from_residual.ensures.1
-    (goes_itself g.N.Records.told g.N.Records.faults g.N.RecordsMut.has_mark g.N.RecordsMut.marks c.args.nodes.now) refl (c.in_err-target.ensures.fault _)
+    again-explains_edit g.N.Records.told g.N.Records.faults g.N.RecordsMut.has_mark g.N.RecordsMut.marks (insert c.args.place (option_copied c.args.name) (value_of c.args.value.now)) c.args.next c.args.paths.now.paths c.args.nodes.now c.args.nodes.now _ c.from_residual.result _ c.from_residual.ensures.1
+    (goes_itself g.N.Records.told g.N.Records.faults g.N.RecordsMut.has_mark g.N.RecordsMut.marks c.args.nodes.now) refl (c.in_err-target.ensures.fault (insert c.args.place (option_copied c.args.name) (value_of c.args.value.now)) c.args.paths.now.paths)
 
 pub returns-in_err-check_children-clause-answers : goal.returns-in_err-check_children-clause-answers
 returns-in_err-check_children-clause-answers g c =
@@ -27,8 +30,8 @@ returns-in_err-check_children-clause-answers g c =
 
 pub returns-in_err-check_children-clause-fault : goal.returns-in_err-check_children-clause-fault
 returns-in_err-check_children-clause-fault g c =
-    again-explains_edit g.N.Records.told g.N.Records.faults g.N.RecordsMut.has_mark g.N.RecordsMut.marks c.args.next _ c.args.nodes.now _ _ c.from_residual-in_err-check_children.result _ c.from_residual-in_err-check_children.ensures.1
-    c.in_ok-target.ensures.goes_on c.in_ok-target.ensures.same (c.in_err-check_children.ensures.fault _)
+    again-explains_edit g.N.Records.told g.N.Records.faults g.N.RecordsMut.has_mark g.N.RecordsMut.marks (insert c.args.place (option_copied c.args.name) (value_of c.args.value.now)) c.args.next c.args.paths.now.paths c.args.nodes.now _ _ c.from_residual-in_err-check_children.result _ c.from_residual-in_err-check_children.ensures.1
+    c.in_ok-target.ensures.goes_on c.in_ok-target.ensures.same (c.in_err-check_children.ensures.fault (insert c.args.place (option_copied c.args.name) (value_of c.args.value.now)) c.args.paths.now.paths)
 
 pub check_children-requires : goal.check_children-requires
 check_children-requires g c = leads-there _ _ _ _ c.in_ok-target.ensures.same c.in_ok-target.ensures.first
@@ -43,7 +46,7 @@ returns-in_err-rim-clause-answers g c =
 
 pub returns-in_err-rim-clause-fault : goal.returns-in_err-rim-clause-fault
 returns-in_err-rim-clause-fault g c =
-    err-explains_edit g.N.Records.told g.N.Records.faults g.N.RecordsMut.has_mark g.N.RecordsMut.marks c.args.next _ c.args.nodes.now _ _ c.from_residual-in_err-rim.result _ c.from_residual-in_err-rim.ensures.1
+    err-explains_edit g.N.Records.told g.N.Records.faults g.N.RecordsMut.has_mark g.N.RecordsMut.marks (insert c.args.place (option_copied c.args.name) (value_of c.args.value.now)) c.args.next c.args.paths.now.paths c.args.nodes.now _ _ c.from_residual-in_err-rim.result _ c.from_residual-in_err-rim.ensures.1
     (goes_then g.N.Records.told g.N.Records.faults g.N.RecordsMut.has_mark g.N.RecordsMut.marks _ _ _ c.in_ok-target.ensures.goes_on c.in_ok-check_children.ensures.goes_on) (c.in_ok-check_children.ensures.same ∙ c.in_ok-target.ensures.same) c.in_err-rim.ensures.fault
 
 pub returns-in_err-more-clause-answers : goal.returns-in_err-more-clause-answers
@@ -52,7 +55,7 @@ returns-in_err-more-clause-answers g c =
     (checks-there _ _ _ _ _ _ c.in_ok-target.ensures.same c.in_ok-check_children.ensures.checks) (c.in_ok-check_children.ensures.same ∙ c.in_ok-target.ensures.same) (count-below _ _ _ _ c.is_object-in_object.ensures c.new_keys.ensures.is) (c.in_err-more.ensures.room _ _ c.in_ok-rim.ensures.counted)
 
 pub returns-in_err-more-clause-fault : goal.returns-in_err-more-clause-fault
-returns-in_err-more-clause-fault g c = err_again c.from_residual-in_err-more.result _ _ c.from_residual-in_err-more.ensures.1 (refused-explains _ _ _ _ _ c.in_err-more.ensures.fault)
+returns-in_err-more-clause-fault g c = err_again c.from_residual-in_err-more.result _ _ c.from_residual-in_err-more.ensures.1 (refused-explains (insert c.args.place (option_copied c.args.name) (value_of c.args.value.now)) c.args.next _ c.args.paths.now.paths _ _ c.in_err-more.ensures.fault)
 
 pub returns-in-Some-clause-answers : goal.returns-in-Some-clause-answers
 returns-in-Some-clause-answers g c =
@@ -73,7 +76,12 @@ returns-in_err-path-clause-answers g c =
 
 pub returns-in_err-path-clause-fault : goal.returns-in_err-path-clause-fault
 returns-in_err-path-clause-fault g c =
-    err_again c.from_residual-in_err-path.result _ _ c.from_residual-in_err-path.ensures.1 (breach-edit_explains c.args.next _ _ _ _ (c.in_err-path.ensures.fault (g.N.Records.told c.args.nodes.now) c.args.paths.now.paths c.args.next 0 0 (inr (omega arith)) (inr c.in_ok-target.ensures.path) (drifts-itself 0 0 _)))
+    err_again c.from_residual-in_err-path.result _ _ c.from_residual-in_err-path.ensures.1 (breach-edit_explains (insert c.args.place (option_copied c.args.name) (value_of c.args.value.now)) c.args.next (g.N.Records.told c.args.nodes.now) c.args.paths.now.paths _ _
+    (let some = some-coming c.args.place (option_copied c.args.name) (value_of c.args.value.now) in
+    let reach = reach_of (insert c.args.place (option_copied c.args.name) (value_of c.args.value.now)) c.args.next (g.N.Records.told c.args.nodes.now) in
+    let new : IsNew reach c.args.next = (omega arith, omega (arith, some)) in
+    let at = c.in_ok-target.ensures.path in
+    c.in_err-path.ensures.fault (g.N.Records.told c.args.nodes.now) c.args.paths.now.paths reach 0 [] (inr new) (base-of _ reach c.args.next at.0 at.1.0 _ _ at.1.1.0 at.1.1.1 (inr (inr (new, at.1.1.2)))) (drifts-itself 0 [] _)))
 
 pub returns-in_err-fill-clause-answers : goal.returns-in_err-fill-clause-answers
 returns-in_err-fill-clause-answers g c =
@@ -93,8 +101,11 @@ returns-clause-answers g c =
     (entering-room c.is_object-in_object.result _ _ _ _ c.new_keys.ensures.is (sym c.name_refusal.ensures ∙ c.in_default.is) c.in_ok-more.ensures.enough)) _ c.in_ok-more.more _ _ c.in_ok-more.ensures.count c.in_ok-path.ensures.onto c.in_ok-fill.ensures.done
 
 pub returns-in_err-fill-clause-fault : goal.returns-in_err-fill-clause-fault
-returns-in_err-fill-clause-fault g c = err_again c.from_residual-in_err-fill.result _ _ c.from_residual-in_err-fill.ensures.1 (broken_edit-explains _ _ _ _ _ (c.in_err-fill.ensures.fault _ c.args.paths.now.paths 0 (inl refl) (rim-there _ _ _ _ (c.in_ok-check_children.ensures.same ∙ c.in_ok-target.ensures.same) c.in_ok-rim.ensures.rim)
-    (inl c.in_ok-path.ensures.there) c.in_ok-path.ensures.drifts))
+returns-in_err-fill-clause-fault g c = err_again c.from_residual-in_err-fill.result _ _ c.from_residual-in_err-fill.ensures.1
+    (broken_edit-explains (insert c.args.place (option_copied c.args.name) (value_of c.args.value.now)) c.args.next (g.N.Records.told c.args.nodes.now) c.args.paths.now.paths _ _
+    (c.in_err-fill.ensures.fault _ c.args.paths.now.paths (reach_of (insert c.args.place (option_copied c.args.name) (value_of c.args.value.now)) c.args.next (g.N.Records.told c.args.nodes.now)) []
+    refl (coming-entering c.args.place (option_copied c.args.name) (value_of c.args.value.now)) (rim-there _ _ _ _ (c.in_ok-check_children.ensures.same ∙ c.in_ok-target.ensures.same) c.in_ok-rim.ensures.rim)
+    c.in_ok-target.ensures.near (inl c.in_ok-path.ensures.there) c.in_ok-path.ensures.drifts))
 
 pub returns-clause-work : goal.returns-clause-work
 returns-clause-work g c =

@@ -1,4 +1,5 @@
-use Rattle.std.proofs.Common.{◌≡◌, ◌+◌, ◌-◌, ◌∙◌, ap, arith}
+use Rattle.std.proofs.Common.{◌≡◌, ◌+◌, ◌-◌, ◌∙◌, ap, arith, subst}
+use Rattle.sx_edit.specs.Damage.{IsSpent}
 use Rattle.std.specs.Option.{option_or}
 use Rattle.sx_view.specs.Rows.{row_of}
 use Rattle.sx_model.specs.Records.{NodeRow}
@@ -11,8 +12,9 @@ pub returns-in_default-clause-cannot : goal.returns-in_default-clause-cannot
 returns-in_default-clause-cannot c = λ fits enough. c.in_default.ensures.none (omega arith) (omega arith)
 
 pub returns-in_default-clause-fault : goal.returns-in_default-clause-fault
-returns-in_default-clause-fault c = λ o next there.
-    spent-children o next c.args.parent.node c.args.parent.record (trees_of_tree c.args.new) _ _ _ there (one-tree c.args.new) (omega (arith, one-tree c.args.old)) (omega arith) c.in_default.ensures.spent c.misplaced.ensures
+returns-in_default-clause-fault c = λ o reach there leaving.
+    spent-children o reach c.args.parent.node c.args.parent.record (trees_of_tree c.args.new) _ c.args.old _ there (one-tree c.args.new) leaving (omega arith)
+    (subst (IsSpent _) c.count_of-2.ensures c.in_default.ensures.spent) c.misplaced.ensures
 
 pub returns-clause-adopted : goal.returns-clause-adopted
 returns-clause-adopted c =

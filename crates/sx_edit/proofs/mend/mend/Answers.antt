@@ -1,9 +1,8 @@
-use Rattle.std.proofs.Common.{◌≤◌, sym, subst}
-use Rattle.std.specs.Prelude.{◌^◌}
-use Rattle.sx_edit.specs.Damage.{HasTreeOf}
+use Rattle.std.proofs.Common.{◌∙◌, sym, subst}
+use Rattle.sx_edit.specs.Seen.{AreCounted}
 use Rattle.sx_edit.proofs.Results.{err_again, if_err-then, on_ok-then}
-use Rattle.sx_edit.proofs.Answering.{at-most_broken}
-use Rattle.sx_edit.proofs.Mending.{mended-adopts, mended-cannot_lift, mended-lifted, parent-counted, rim-counted, tree-fits}
+use Rattle.sx_edit.proofs.Answering.{at-most_miscounted}
+use Rattle.sx_edit.proofs.Mending.{mended-adopts, mended-cannot_lift, mended-lifted, parent-counted, rim-counted, rim-leaves, tree-fits}
 use Rattle.sx_edit.proofs.Siblings.{as_left, as_right}
 use Rattle.sx_edit.proofs.Upward.{counted-push, upward-pop}
 use Rattle.sx_edit.proofs.mend.mend.Goals as goal
@@ -12,8 +11,9 @@ pub returns-in_err-parent-clause-cannot : goal.returns-in_err-parent-clause-cann
 returns-in_err-parent-clause-cannot g c = λ next. err_again c.from_residual-in_err-parent.result _ _ c.from_residual-in_err-parent.ensures.1 (λ damaged. mended-adopts _ _ _ _ _ _ c.in_err-parent.ensures.cannot)
 
 pub returns-in_err-parent-clause-fault : goal.returns-in_err-parent-clause-fault
-returns-in_err-parent-clause-fault g c = λ o next few goes rim.
-    err_again c.from_residual-in_err-parent.result _ _ c.from_residual-in_err-parent.ensures.1 (at-most_broken o next _ (c.in_err-parent.ensures.fault o next rim.above.1))
+returns-in_err-parent-clause-fault g c = λ o reach more leaving rim.
+    err_again c.from_residual-in_err-parent.result _ _ c.from_residual-in_err-parent.ensures.1
+    (at-most_miscounted o reach _ (c.in_err-parent.ensures.fault o reach rim.above.1 (rim-leaves o reach _ c.args.rim c.args.old leaving rim)))
 
 pub returns-clause-cannot : goal.returns-clause-cannot
 returns-clause-cannot g c = λ next.
@@ -30,6 +30,8 @@ returns-clause-done g c = λ next.
     c.in_ok-parent.parent _ _ c.in_ok-parent.ensures.adopted (upward-pop _ _ c.in_ok-parent.parent c.in_ok-push_seen.ensures) (rw (c.shift_of.ensures.plus, c.shift_of.ensures.minus, c.shift_of.ensures.hash) at done)) c.lift.ensures.done
 
 pub returns-clause-fault : goal.returns-clause-fault
-returns-clause-fault g c = λ o next few goes rim.
-    c.lift.ensures.fault o next (subst (λ z. z ≤ 2 ^ 30) (sym c.shift_of.ensures.plus) few) (subst (HasTreeOf o) (sym c.shift_of.ensures.minus) goes)
-    (counted-push o _ _ c.in_ok-parent.parent c.in_ok-push_seen.ensures (rim-counted o _ c.args.rim rim) (parent-counted o _ c.args.rim c.args.old c.args.new c.in_ok-parent.parent c.in_ok-parent.ensures.adopted rim))
+returns-clause-fault g c = λ o reach more leaving rim.
+    c.lift.ensures.fault o reach (c.shift_of.ensures.plus ∙ more)
+    (subst (λ minus. AreCounted o reach minus c.push_seen.new.seen.items) (sym c.shift_of.ensures.minus)
+    (counted-push o reach _ _ _ c.in_ok-parent.parent c.in_ok-push_seen.ensures (rim-counted o reach _ c.args.rim c.args.old leaving rim)
+    (parent-counted o reach _ c.args.rim c.args.old c.args.new c.in_ok-parent.parent c.in_ok-parent.ensures.adopted leaving rim)))

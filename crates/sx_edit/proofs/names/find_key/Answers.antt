@@ -1,5 +1,7 @@
-use Rattle.std.proofs.Common.{◌+◌, ◌-◌, ◌∙◌, inl, refl, subst, arith}
-use Rattle.sx_edit.specs.Damage.{IsRecord}
+use Rattle.std.proofs.Common.{◌+◌, ◌-◌, ◌∙◌, [], ◌∷◌, ◌++◌, inl, inr, refl, subst, arith}
+use Rattle.sx_edit.specs.Damage.{to_right}
+use Rattle.sx_edit.specs.Links.{IsRecord, Walks, first_tops}
+use Rattle.sx_edit.proofs.Visiting.{long-on, walks-endless, walks-on}
 use Rattle.sx_edit.specs.Gets.{GetsKeys}
 use Rattle.sx_edit.specs.Names.{FindsKey}
 use Rattle.sx_edit.proofs.Results.{err_again}
@@ -33,7 +35,9 @@ pub read_linked-requires : goal.read_linked-requires
 read_linked-requires g c = reached-parent _ _ _ _ c.loop-turn.invariant.same (inl (leads-one _ _ _ _ c.in-Some.is c.loop-turn.invariant.lead))
 
 pub returns-in-Some-at-clause-fault : goal.returns-in-Some-at-clause-fault
-returns-in-Some-at-clause-fault g c = endless_explains _ _ _ c.endless.ensures
+returns-in-Some-at-clause-fault g c =
+    let met = c.loop-turn.invariant.met in
+    endless_explains _ _ _ (inr (inl (walks-endless to_right _ c.args.next c.args.first met.0 _ [] (subst (λ at. Walks to_right (g.N.Records.told c.args.nodes.now) (first_tops c.args.first) met.0 (first_tops at)) c.in-Some-at.is met.1.0) (met.1.1 ∙ omega arith)))) c.endless.ensures
 
 pub returns-in_default-clause-work : goal.returns-in_default-clause-work
 returns-in_default-clause-work g c = c.loop-turn.invariant.work _ (keys-none _ _ _ _)
@@ -47,12 +51,22 @@ returns-then-is_named-clause-work g c = c.loop-turn.invariant.work _ (keys-here 
 pub loop-turn-preserved : goal.loop-turn-preserved
 loop-turn-preserved g c =
     let told = g.N.Records.told in
+    let met = c.loop-turn.invariant.met in
+    let entry = c.in_ok-entry.entry in
+    let there = subst (λ o. IsRecord o c.in-Some.number entry) c.loop-turn.invariant.same c.in_ok-entry.ensures.found in
     record {
       finds = λ answer rest. c.loop-turn.invariant.finds answer
           (finds-next _ _ _ _ _ _ c.in_ok-entry.entry _ answer c.in-Some.is c.in_ok-entry.ensures.found (cc) (omega arith)
           (subst (λ o. FindsKey c.args.except c.args.name.now c.in_ok-entry.entry.right (c.args.next - (c.loop-turn._turn + 1)) o answer) c.in_ok-entry.ensures.same rest));
       work = λ last rest. c.loop-turn.invariant.work last (keys-next _ _ _ _ c.in_ok-entry.entry _ _ _ last c.in-Some.is c.in_ok-entry.ensures.found (omega arith) c.in_ok-entry.ensures.gets
           (subst (λ o. GetsKeys c.in_ok-entry.entry.right (c.args.next - (c.loop-turn._turn + 1)) o (g.N.Records.gets c.read_linked.new.nodes) last) c.in_ok-entry.ensures.same rest));
+      met = (
+        met.0 ++ entry ∷ [],
+        (
+          walks-on to_right _ _ met.0 c.in-Some.number [] entry (subst (λ at. Walks to_right (g.N.Records.told c.args.nodes.now) (first_tops c.args.first) met.0 (first_tops at)) c.in-Some.is met.1.0) there,
+          long-on met.0 entry _ met.1.1,
+        ),
+      );
       lead = leads-right (told c.args.nodes.now) c.in-Some.number c.in_ok-entry.entry (subst (λ o. IsRecord o c.in-Some.number c.in_ok-entry.entry) c.loop-turn.invariant.same c.in_ok-entry.ensures.found) c.in_ok-entry.entry.right refl;
       same = c.in_ok-entry.ensures.same ∙ c.loop-turn.invariant.same;
       goes_on = goes_then told g.N.Records.faults g.N.RecordsMut.has_mark g.N.RecordsMut.marks _ _ _ c.loop-turn.invariant.goes_on c.in_ok-entry.ensures.goes_on;

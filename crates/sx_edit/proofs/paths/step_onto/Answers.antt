@@ -1,4 +1,4 @@
-use Rattle.std.proofs.Common.{◌∙◌, arith, ap, inl, inr}
+use Rattle.std.proofs.Common.{◌∙◌, [], arith, ap, inl, inr}
 use Rattle.sx_edit.proofs.Pathing.{memory-stops, onto-found, onto-full, onto-large, onto-low, onto-new, onto-orphan}
 use Rattle.sx_edit.specs.Damage.{misplaced}
 use Rattle.sx_edit.proofs.Drifting.{breach-low, breach-orphan, drifts-entered, drifts-itself, row-found, there-entered, there-row}
@@ -35,14 +35,14 @@ pub returns-then-not-is_base-clause-stops : goal.returns-then-not-is_base-clause
 returns-then-not-is_base-clause-stops c = onto-orphan _ _ _ _ c.find.ensures _ _ (c.is_base.ensures.not_top (cc)) (c.is_base.ensures.absent (cc))
 
 pub returns-then-number-parent-clause-fault : goal.returns-then-number-parent-clause-fault
-returns-then-number-parent-clause-fault c = λ o table next plus minus needs base drifts.
+returns-then-number-parent-clause-fault c = λ o table reach plus minus needs base drifts.
     let at = row-found _ _ c.args.paths.now.paths _ c.in-Some.number c.find.ensures c.in-Some.is in
-    breach-low o table _ next plus minus drifts c.args.node c.in-Some.number at.0 _ needs at.1.0 (inl (omega (arith, at.1.1))) (c.misplaced.ensures ∙ ap (misplaced c.args.node) (omega arith))
+    breach-low o table _ reach plus minus drifts c.args.node c.in-Some.number at.0 _ needs at.1.0 (inl (omega (arith, at.1.1))) (c.misplaced.ensures ∙ ap (misplaced c.args.node) (omega arith))
 
 pub returns-then-number-gt-LAST-clause-fault : goal.returns-then-number-gt-LAST-clause-fault
-returns-then-number-gt-LAST-clause-fault c = λ o table next plus minus needs base drifts.
+returns-then-number-gt-LAST-clause-fault c = λ o table reach plus minus needs base drifts.
     let at = row-found _ _ c.args.paths.now.paths _ c.in-Some.number c.find.ensures c.in-Some.is in
-    breach-low o table _ next plus minus drifts c.args.node c.in-Some.number at.0 _ needs at.1.0 (inr (omega arith)) (c.misplaced-then-number-gt-LAST.ensures ∙ ap (misplaced c.args.node) (omega arith))
+    breach-low o table _ reach plus minus drifts c.args.node c.in-Some.number at.0 _ needs at.1.0 (inr (omega arith)) (c.misplaced-then-number-gt-LAST.ensures ∙ ap (misplaced c.args.node) (omega arith))
 
 pub returns-in-Some-clause-there : goal.returns-in-Some-clause-there
 returns-in-Some-clause-there c =
@@ -50,11 +50,11 @@ returns-in-Some-clause-there c =
     there-row c.args.paths.now.paths c.in-Some.number at.0 at.1.0
 
 pub returns-in-Some-clause-drifts : goal.returns-in-Some-clause-drifts
-returns-in-Some-clause-drifts c = drifts-itself 0 0 _
+returns-in-Some-clause-drifts c = drifts-itself 0 [] _
 
 pub returns-then-not-is_base-clause-fault : goal.returns-then-not-is_base-clause-fault
-returns-then-not-is_base-clause-fault c = λ o table next plus minus needs base drifts.
-    breach-orphan o table _ next plus minus drifts c.args.node c.args.parent _ base (c.is_base.ensures.not_top (cc)) (c.is_base.ensures.absent (cc)) (c.misplaced-then-not-is_base.ensures ∙ ap (misplaced c.args.node) (omega arith))
+returns-then-not-is_base-clause-fault c = λ o table reach plus minus needs base drifts.
+    breach-orphan o table _ reach plus minus drifts c.args.node c.args.parent _ base (c.is_base.ensures.not_top (cc)) (c.is_base.ensures.absent (cc)) (c.misplaced-then-not-is_base.ensures ∙ ap (misplaced c.args.node) (omega arith))
 
 pub returns-clause-drifts : goal.returns-clause-drifts
 returns-clause-drifts c =

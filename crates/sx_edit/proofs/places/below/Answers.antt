@@ -1,4 +1,4 @@
-use Rattle.std.proofs.Common.{◌∙◌, inl, inr, sym, refl, arith}
+use Rattle.std.proofs.Common.{◌∙◌, inl, sym, refl, arith}
 use Rattle.sx_edit.proofs.Answering.{err-explains_edit, untold-no_state}
 use Rattle.sx_edit.proofs.Going.{goes_itself, leads-first, leads-same}
 use Rattle.sx_edit.proofs.Placing.{reached-below, below-absent, below-beyond, below-place, below-wrong, fault-no_place}
@@ -12,7 +12,7 @@ returns-in_err-entry-clause-none g c = fault-no_place _ _ _ _ c.from_residual.re
 
 pub returns-in_err-entry-clause-fault : goal.returns-in_err-entry-clause-fault
 returns-in_err-entry-clause-fault g c =
-    λ table. err-explains_edit g.N.Records.told g.N.Records.faults g.N.RecordsMut.has_mark g.N.RecordsMut.marks c.args.next table c.args.nodes.now c.args.nodes.now _ c.from_residual.result _ c.from_residual.ensures.1
+    λ edit table. err-explains_edit g.N.Records.told g.N.Records.faults g.N.RecordsMut.has_mark g.N.RecordsMut.marks edit c.args.next table c.args.nodes.now c.args.nodes.now _ c.from_residual.result _ c.from_residual.ensures.1
     (goes_itself g.N.Records.told g.N.Records.faults g.N.RecordsMut.has_mark g.N.RecordsMut.marks c.args.nodes.now) refl (c.in_err-entry.ensures.fault c.args.next)
 
 pub returns-in_default-clause-none : goal.returns-in_default-clause-none
@@ -33,4 +33,7 @@ returns-clause-place g c =
     (record { parent = c.gap_below.ensures.parent; left = c.gap_below.ensures.left; right = c.gap_below.ensures.right; kind = refl; first = refl; path = refl })
 
 pub returns-clause-path : goal.returns-clause-path
-returns-clause-path g c = (c.args.node, (c.in-Some.entry, ((λ m e. sym (c.in_ok-entry.ensures.found m e) ∙ c.in-Some.is), refl, inr (inl (omega arith)))))
+returns-clause-path g c = (c.args.node, (c.in-Some.entry, ((λ m e. sym (c.in_ok-entry.ensures.found m e) ∙ c.in-Some.is), refl, inl refl)))
+
+pub returns-clause-near : goal.returns-clause-near
+returns-clause-near g c = inl c.gap_below.ensures.parent

@@ -1,4 +1,4 @@
-use Rattle.std.proofs.Common.{◌∙◌, inl, inr, sym, refl, arith}
+use Rattle.std.proofs.Common.{◌∙◌, Some, ap, inl, inr, sym, refl, arith}
 use Rattle.sx_edit.proofs.Answering.{err-explains_edit, untold-no_state}
 use Rattle.sx_edit.proofs.Going.{goes_itself, leads-first, leads-one, leads-parent, leads-same, record-there}
 use Rattle.sx_edit.proofs.Splicing.{moved-there, parented}
@@ -13,7 +13,7 @@ returns-in_err-entry-clause-none g c = fault-no_place _ _ _ _ c.from_residual.re
 
 pub returns-in_err-entry-clause-fault : goal.returns-in_err-entry-clause-fault
 returns-in_err-entry-clause-fault g c =
-    λ table. err-explains_edit g.N.Records.told g.N.Records.faults g.N.RecordsMut.has_mark g.N.RecordsMut.marks c.args.next table c.args.nodes.now c.args.nodes.now _ c.from_residual.result _ c.from_residual.ensures.1
+    λ edit table. err-explains_edit g.N.Records.told g.N.Records.faults g.N.RecordsMut.has_mark g.N.RecordsMut.marks edit c.args.next table c.args.nodes.now c.args.nodes.now _ c.from_residual.result _ c.from_residual.ensures.1
     (goes_itself g.N.Records.told g.N.Records.faults g.N.RecordsMut.has_mark g.N.RecordsMut.marks c.args.nodes.now) refl (c.in_err-entry.ensures.fault c.args.next)
 
 pub returns-in_default-clause-none : goal.returns-in_default-clause-none
@@ -30,7 +30,7 @@ returns-in_err-above-clause-none g c =
 
 pub returns-in_err-above-clause-fault : goal.returns-in_err-above-clause-fault
 returns-in_err-above-clause-fault g c =
-    λ table. err-explains_edit g.N.Records.told g.N.Records.faults g.N.RecordsMut.has_mark g.N.RecordsMut.marks c.args.next table c.args.nodes.now _ _ c.from_residual-in_err-above.result _ c.from_residual-in_err-above.ensures.1
+    λ edit table. err-explains_edit g.N.Records.told g.N.Records.faults g.N.RecordsMut.has_mark g.N.RecordsMut.marks edit c.args.next table c.args.nodes.now _ _ c.from_residual-in_err-above.result _ c.from_residual-in_err-above.ensures.1
     c.in_ok-entry.ensures.goes_on c.in_ok-entry.ensures.same (c.in_err-above.ensures.fault c.args.next)
 
 pub returns-then-is_key-clause-none : goal.returns-then-is_key-clause-none
@@ -55,4 +55,7 @@ returns-clause-place g c =
     (record { parent_is = c.gap_beside.ensures.parent; left = c.gap_beside.ensures.left; right = c.gap_beside.ensures.right; kind = refl; first = refl; path = refl })
 
 pub returns-clause-path : goal.returns-clause-path
-returns-clause-path g c = (c.in-Some-parent.parent, (c.in_ok-above.above, (moved-there _ _ _ _ c.in_ok-entry.ensures.same c.in_ok-above.ensures.found, refl, inr (inl (omega arith)))))
+returns-clause-path g c = (c.in-Some-parent.parent, (c.in_ok-above.above, (moved-there _ _ _ _ c.in_ok-entry.ensures.same c.in_ok-above.ensures.found, refl, inr (c.in-Some.entry, ((λ m e. sym (c.in_ok-entry.ensures.found m e) ∙ c.in-Some.is), c.in-Some-parent.is)))))
+
+pub returns-clause-near : goal.returns-clause-near
+returns-clause-near g c = inr (c.in-Some.entry, ((λ m e. sym (c.in_ok-entry.ensures.found m e) ∙ c.in-Some.is), c.in-Some-parent.is ∙ ap (λ p. Some p) (sym c.gap_beside.ensures.parent)))

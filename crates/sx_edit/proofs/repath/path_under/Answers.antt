@@ -1,4 +1,4 @@
-use Rattle.std.proofs.Common.{inl, inr, refl}
+use Rattle.std.proofs.Common.{[], inl, inr, refl}
 use Rattle.sx_edit.proofs.Results.{if_err-then, if_ok-then}
 use Rattle.sx_edit.proofs.Growing.{named-onto}
 use Rattle.sx_edit.proofs.Stopping.{named-stops}
@@ -33,13 +33,13 @@ pub returns-in_default-clause-under : goal.returns-in_default-clause-under
 returns-in_default-clause-under c = under-same _ _ _ _ (λ steps. under-other _ steps _ c.in_default.not-Document c.in_default.not-Object c.in_default.not-Array)
 
 pub returns-in-Document-clause-fault : goal.returns-in-Document-clause-fault
-returns-in-Document-clause-fault c = λ o table next plus minus needs there drifts. c.step_onto.ensures.fault o table next plus minus needs (inl refl) drifts
+returns-in-Document-clause-fault c = λ o table reach plus minus needs there drifts. c.step_onto.ensures.fault o table reach plus minus needs (inl refl) drifts
 
 pub returns-in_ok-step-in-Object-clause-fault : goal.returns-in_ok-step-in-Object-clause-fault
-returns-in_ok-step-in-Object-clause-fault c = λ o table next plus minus needs there drifts. c.step_onto-in-Object.ensures.fault o table next plus minus needs (inr (inl there)) drifts
+returns-in_ok-step-in-Object-clause-fault c = λ o table reach plus minus needs there drifts. c.step_onto-in-Object.ensures.fault o table reach plus minus needs (inr (inl there)) drifts
 
 pub returns-in-Array-clause-fault : goal.returns-in-Array-clause-fault
-returns-in-Array-clause-fault c = λ o table next plus minus needs there drifts. c.step_onto-in-Array.ensures.fault o table next plus minus needs (inr (inl there)) drifts
+returns-in-Array-clause-fault c = λ o table reach plus minus needs there drifts. c.step_onto-in-Array.ensures.fault o table reach plus minus needs (inr (inl there)) drifts
 
 pub returns-in_default-clause-drifts : goal.returns-in_default-clause-drifts
-returns-in_default-clause-drifts c = drifts-itself 0 0 _
+returns-in_default-clause-drifts c = drifts-itself 0 [] _

@@ -1,11 +1,14 @@
-use Rattle.std.proofs.Common.{◌≡◌, [], ◌∙◌, refl, ap, inl, rules, subst, sym, arith}
-use Rattle.sx_edit.specs.Damage.{IsRecord}
-use Rattle.sx_edit.specs.Clear.{with_top}
-use Rattle.sx_edit.specs.Repath.{AllLead, AllThere, with_goal}
+use Rattle.std.proofs.Common.{◌≡◌, [], ◌∷◌, ◌++◌, ◌∙◌, length, length-append, refl, ap, inl, rules, subst, sym, arith}
+use Rattle.sx_model.specs.Edit.{rename}
+use Rattle.sx_edit.specs.Damage.{reach_of}
+use Rattle.sx_edit.specs.Drift.{Drifts}
+use Rattle.sx_edit.specs.Links.{IsRecord, Walks, first_tops, path_left, paths_left, preorder, with_top}
+use Rattle.sx_edit.specs.Repath.{AllLead, AllThere, goals_of, with_goal}
 use Rattle.sx_edit.proofs.Clearing.{walked-end, walked-step}
 use Rattle.sx_edit.proofs.Results.{err_again, if_err-then, pushed-length}
 use Rattle.sx_edit.proofs.Going.{endless_explains, goes_itself, goes_then, leads-first, leads-right, node-damage, reached-parent}
-use Rattle.sx_edit.proofs.Drifting.{all_there-on, drifts-itself, drifts-then, there-on}
+use Rattle.sx_edit.proofs.Drifting.{all_there-on, drifts-itself, drifts-on, drifts-then, there-on}
+use Rattle.sx_edit.proofs.Visiting.{comes-to, left-more, left-most, long-on, walks-endless, walks-on}
 use Rattle.sx_edit.proofs.Answering.{err-explains_edit}
 use Rattle.sx_edit.proofs.Stopping.{breach-edit_explains, fault-breach}
 use Rattle.sx_edit.proofs.Repathing.{goal_tops, moved-on, start-moves, start-stops, start-walks, tops-goal, memory-stops_repathing, repathed-end, repathed-on, repathed-step, stops-step_on, turn-endless, turn-exchange, turn-fault, turn-memory, turn-under}
@@ -35,7 +38,7 @@ returns-in_err-record-clause-stops g c =
 
 pub returns-in_err-record-clause-fault : goal.returns-in_err-record-clause-fault
 returns-in_err-record-clause-fault g c =
-    λ table there drifts few. err-explains_edit g.N.Records.told g.N.Records.faults g.N.RecordsMut.has_mark g.N.RecordsMut.marks c.args.next table _ c.loop-turn.nodes _ c.from_residual-in_err-record.result _
+    λ table name own known first_is there drifts few. err-explains_edit g.N.Records.told g.N.Records.faults g.N.RecordsMut.has_mark g.N.RecordsMut.marks (rename c.args.node name) c.args.next table _ c.loop-turn.nodes _ c.from_residual-in_err-record.result _
     c.from_residual-in_err-record.ensures.1 c.loop-turn.invariant.goes_on c.loop-turn.invariant.same (c.in_err-record.ensures.fault c.args.next)
 
 pub returns-in_err-path-clause-stops : goal.returns-in_err-path-clause-stops
@@ -44,12 +47,13 @@ returns-in_err-path-clause-stops g c =
 
 pub returns-in_err-path-clause-fault : goal.returns-in_err-path-clause-fault
 returns-in_err-path-clause-fault g c =
-    λ table there drifts few.
-    err_again c.from_residual-in_err-path.result _ _ c.from_residual-in_err-path.ensures.1 (breach-edit_explains c.args.next _ table _ _
-    (c.in_err-path.ensures.fault (g.N.Records.told c.args.nodes.now) table c.args.next c.loop-turn._turn c.loop-turn._turn
+    λ table name own known first_is there drifts few.
+    let met = c.loop-turn.invariant.met in
+    err_again c.from_residual-in_err-path.result _ _ c.from_residual-in_err-path.ensures.1 (breach-edit_explains (rename c.args.node name) c.args.next _ table _ _
+    (c.in_err-path.ensures.fault (g.N.Records.told c.args.nodes.now) table (reach_of (rename c.args.node name) c.args.next (g.N.Records.told c.args.nodes.now)) (length (paths_left met.0)) (paths_left met.0)
     (inl (c.in_ok-record.record, subst (λ o. IsRecord o c.in-Some.at.to c.in_ok-record.record) c.loop-turn.invariant.same c.in_ok-record.ensures.found))
     (c.in-Some.ensures.there _ (c.loop-turn.invariant.there there)).1
-    (drifts-then 0 0 c.loop-turn._turn c.loop-turn._turn _ _ (omega arith) (omega arith) _ _ _ drifts c.loop-turn.invariant.drifts)))
+    (drifts-then 0 (length (paths_left met.0)) _ [] (paths_left met.0) (omega arith) _ _ _ drifts met.1.2)))
 
 pub returns-in_err-change_path-clause-stops : goal.returns-in_err-change_path-clause-stops
 returns-in_err-change_path-clause-stops g c =
@@ -58,15 +62,20 @@ returns-in_err-change_path-clause-stops g c =
 
 pub returns-in_err-change_path-clause-fault : goal.returns-in_err-change_path-clause-fault
 returns-in_err-change_path-clause-fault g c =
-    λ table there drifts few.
-    if_err-then c.from_residual-in_err-change_path.result _ _ (λ e breach. breach-edit_explains c.args.next _ table _ e breach)
-    (fault-breach (g.N.Records.told c.args.nodes.now) table c.args.next c.from_residual-in_err-change_path.result _ c.from_residual-in_err-change_path.ensures.1
-    (c.in_err-change_path.ensures.fault _ table c.args.next c.loop-turn._turn c.loop-turn._turn c.in_ok-record.record
-    (subst (λ o. IsRecord o c.in-Some.at.to c.in_ok-record.record) c.loop-turn.invariant.same c.in_ok-record.ensures.found) refl
+    λ table name own known first_is there drifts few.
+    let met = c.loop-turn.invariant.met in
+    let reach = reach_of (rename c.args.node name) c.args.next (g.N.Records.told c.args.nodes.now) in
+    let long = left-most met.0 in
+    let turns = met.1.1 in
+    if_err-then c.from_residual-in_err-change_path.result _ _ (λ e breach. breach-edit_explains (rename c.args.node name) c.args.next _ table _ e breach)
+    (fault-breach (g.N.Records.told c.args.nodes.now) table reach c.from_residual-in_err-change_path.result _ c.from_residual-in_err-change_path.ensures.1
+    (c.in_err-change_path.ensures.fault _ table reach (length (paths_left met.0)) met.0 c.in_ok-record.record
+    (subst (λ o. IsRecord o c.in-Some.at.to c.in_ok-record.record) c.loop-turn.invariant.same c.in_ok-record.ensures.found) refl refl
     (c.in_ok-path.ensures.there (c.in-Some.ensures.there _ (c.loop-turn.invariant.there there)).1)
-    (drifts-then c.loop-turn._turn c.loop-turn._turn 0 0 _ _ (omega arith) (omega arith) _ _ _
-    (drifts-then 0 0 c.loop-turn._turn c.loop-turn._turn _ _ (omega arith) (omega arith) _ _ _ drifts c.loop-turn.invariant.drifts) c.in_ok-path.ensures.drifts)
-    (omega arith) (omega arith)))
+    (comes-to _ c.args.node own c.args.first met.0 c.in-Some.at.to _ _ known first_is met.1.0 (ap goal_tops c.in-Some.ensures.some))
+    (omega arith) (omega (arith, long, turns, few))
+    (drifts-on (length (paths_left met.0)) 0 (length (paths_left met.0)) (paths_left met.0) _ _ _ (omega arith)
+    (drifts-then 0 (length (paths_left met.0)) (length (paths_left met.0)) [] (paths_left met.0) (omega arith) _ _ _ drifts met.1.2) c.in_ok-path.ensures.drifts)))
 
 pub returns-in_err-push_seen-clause-stops : goal.returns-in_err-push_seen-clause-stops
 returns-in_err-push_seen-clause-stops g c = turn-memory _ _ _ _ _ _ _ c.loop-turn.invariant.stops c.from_residual-in_err-push_seen.result c.from_residual-in_err-push_seen.ensures.1
@@ -75,7 +84,10 @@ pub returns-in-Some-pop_move-clause-stops : goal.returns-in-Some-pop_move-clause
 returns-in-Some-pop_move-clause-stops g c = turn-endless _ _ _ _ _ _ _ c.loop-turn.invariant.stops _ _ _ c.in-Some-pop_move.ensures.some (omega arith)
 
 pub returns-in-Some-pop_move-clause-fault : goal.returns-in-Some-pop_move-clause-fault
-returns-in-Some-pop_move-clause-fault g c = λ table there drifts few. node-damage _ _ _ _ (endless_explains _ _ _ c.endless.ensures)
+returns-in-Some-pop_move-clause-fault g c = λ table name own known first_is there drifts few.
+    let met = c.loop-turn.invariant.met in
+    node-damage _ c.args.next _ _ _ refl
+    (endless_explains _ _ _ (inl (walks-endless preorder _ c.args.next c.args.first met.0 _ _ (subst (Walks preorder (g.N.Records.told c.args.nodes.now) (first_tops c.args.first) met.0) (ap goal_tops c.in-Some-pop_move.ensures.some) met.1.0) (met.1.1 ∙ omega arith))) c.endless.ensures)
 
 pub loop-turn-init : goal.loop-turn-init
 loop-turn-init g c =
@@ -87,7 +99,7 @@ loop-turn-init g c =
       stops = λ e more. start-stops _ _ _ _ _ _ _ e _ _ goals empty (omega arith) more;
       walks = λ rest more. start-walks _ _ _ _ _ _ _ _ _ rest goals empty none (omega arith) more;
       lead = c.in_ok-push_move.ensures.lead _ c.requires (subst (AllLead (g.N.Records.told c.args.nodes.now)) (sym empty) tt);
-      drifts = drifts-itself 0 0 _;
+      met = ([], (sym (ap goal_tops (goals ∙ ap (λ m. with_goal c.args.over.kind c.args.over.path c.args.first (goals_of m)) empty) ∙ tops-goal c.args.over.kind c.args.over.path c.args.first []), refl, drifts-itself 0 [] _));
       there = λ there. c.in_ok-push_move.ensures.there _ there (subst (AllThere c.args.paths.now.paths) (sym empty) tt);
       gets = omega arith;
       same = refl;
@@ -108,8 +120,11 @@ loop-turn-preserved g c =
     let entry = c.in_ok-record.record in
     let there = subst (λ o. IsRecord o c.in-Some.at.to entry) inv.same c.in_ok-record.ensures.found in
     let lead = (c.in-Some.ensures.lead _ inv.lead).0 in
-    let step = drifts-then 0 0 1 1 1 1 (omega arith) (omega arith) _ _ _ c.in_ok-path.ensures.drifts c.in_ok-change_path.ensures.drifts in
     let goals = c.in_ok-push_move-3.ensures.goals ∙ ap (with_goal entry.kind c.in_ok-path.path entry.first) c.in_ok-push_move-2.ensures.goals in
+    let changed = c.in_ok-change_path.ensures.drifts entry refl refl in
+    let step = drifts-then 0 (length (path_left entry)) (length (path_left entry)) [] (path_left entry) (omega arith) _ _ _ c.in_ok-path.ensures.drifts changed in
+    let met = inv.met in
+    let tops = ap goal_tops goals ∙ tops-goal entry.kind c.in_ok-path.path entry.first _ ∙ ap (with_top entry.first) (tops-goal c.in-Some.at.over.kind c.in-Some.at.over.path entry.right _) in
     record {
       moves = λ last rest more. repathed-on _ _ _ last _ _ _ rest c.in_ok-push_seen.ensures
           (inv.moves last _
@@ -120,14 +135,23 @@ loop-turn-preserved g c =
           goals c.in_ok-record.ensures.same rest);
       walks = λ rest more. moved-on _ _ _ _ _ _ rest c.in_ok-push_seen.ensures
           (inv.walks _ (walked-step _ _ _ _ _ _ entry _ _ rest (ap goal_tops c.in-Some.ensures.some) c.in_ok-record.ensures.found (omega arith)
-          (ap goal_tops goals ∙ tops-goal entry.kind c.in_ok-path.path entry.first _ ∙ ap (with_top entry.first) (tops-goal c.in-Some.at.over.kind c.in-Some.at.over.path entry.right _)) c.in_ok-record.ensures.same more));
+          tops c.in_ok-record.ensures.same more));
       lead = c.in_ok-push_move-3.ensures.lead _ (leads-first (told c.args.nodes.now) c.in-Some.at.to entry there entry.first refl)
           (c.in_ok-push_move-2.ensures.lead _ (leads-right (told c.args.nodes.now) c.in-Some.at.to entry there entry.right refl) lead);
-      drifts = drifts-then c.loop-turn._turn c.loop-turn._turn 1 1 _ _ (omega arith) (omega arith) _ _ _ inv.drifts step;
+      met = (
+        met.0 ++ entry ∷ [],
+        (
+          subst (Walks preorder (told c.args.nodes.now) (first_tops c.args.first) (met.0 ++ entry ∷ [])) (sym tops)
+              (walks-on preorder _ _ met.0 c.in-Some.at.to _ entry (subst (Walks preorder (g.N.Records.told c.args.nodes.now) (first_tops c.args.first) met.0) (ap goal_tops c.in-Some.ensures.some) met.1.0) there),
+          long-on met.0 entry _ met.1.1,
+          subst (λ l. Drifts (length l) l c.args.paths.now.paths c.change_path.new.paths.paths) (sym (left-more met.0 entry))
+              (drifts-then (length (paths_left met.0)) (length (path_left entry)) (length (paths_left met.0 ++ path_left entry)) (paths_left met.0) (path_left entry) (omega (arith, length-append (paths_left met.0) (path_left entry))) _ _ _ met.1.2 step),
+        ),
+      );
       there = λ start.
           let at = c.in-Some.ensures.there _ (inv.there start) in
-          c.in_ok-push_move-3.ensures.there _ (there-on 1 1 _ _ _ c.in_ok-change_path.ensures.drifts (c.in_ok-path.ensures.there at.1))
-          (c.in_ok-push_move-2.ensures.there _ (there-on 1 1 _ _ _ step at.1) (all_there-on 1 1 _ _ _ step at.0));
+          c.in_ok-push_move-3.ensures.there _ (there-on _ _ _ _ _ changed (c.in_ok-path.ensures.there at.1))
+          (c.in_ok-push_move-2.ensures.there _ (there-on _ _ _ _ _ step at.1) (all_there-on _ _ _ _ _ step at.0));
       gets = omega (arith, inv.gets, c.in_ok-record.ensures.gets, pushed-length _ _ _ c.in_ok-push_seen.ensures);
       same = c.in_ok-record.ensures.same ∙ inv.same;
       same_mark = c.in_ok-change_path.ensures.same_mark ∙ c.in_ok-path.ensures.same_mark ∙ inv.same_mark;

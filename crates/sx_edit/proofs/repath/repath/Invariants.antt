@@ -5,7 +5,8 @@ use Rattle.sx_edit.specs.Pathways.{kept}
 use Rattle.sx_edit.specs.Drift.{Drifts, IsThere}
 use Rattle.sx_edit.specs.Repath.{AllLead, AllThere, IsRepathed, StopsRepathing, first_goals, goals_of}
 use Rattle.sx_edit.specs.Seen.{entries_of}
-use Rattle.sx_edit.specs.Clear.{first_tops}
+use Rattle.sx_tree.specs.declared.record.NodeRecord.{NodeRecord}
+use Rattle.sx_edit.specs.Links.{Walks, first_tops, paths_left, preorder}
 use Rattle.sx_edit.specs.Told.{IsWalked, numbers_of}
 use Rattle.sx_edit.proofs.Repathing.{goal_tops}
 use Rattle.sx_edit.specs.Steps.{GoesOn}
@@ -22,7 +23,8 @@ invariant-loop-turn g l =
           → StopsRepathing (first_goals l.fn.over.kind l.fn.over.path l.fn.first) l.fn.next l.fn.had (kept (told l.fn.nodes) l.fn.paths.paths) e;
       walks : (rest : List ℕ) → IsWalked (goal_tops (goals_of l.left.items)) (l.fn.next - l._turn) (told l.nodes) rest → IsWalked (first_tops l.fn.first) l.fn.next (told l.fn.nodes) (numbers_of (entries_of l.moved.items) ++ rest);
       lead : AllLead (told l.fn.nodes) l.left.items;
-      drifts : Drifts l._turn l._turn l.fn.paths.paths l.paths.paths;
+      met : (visited : List NodeRecord) × (Walks preorder (told l.fn.nodes) (first_tops l.fn.first) visited (goal_tops (goals_of l.left.items)) × (length visited ≡ l._turn)
+          × Drifts (length (paths_left visited)) (paths_left visited) l.fn.paths.paths l.paths.paths);
       there : IsThere l.fn.paths.paths l.fn.over.path → AllThere l.paths.paths l.left.items;
       gets : g.N.Records.gets l.nodes ≤ g.N.Records.gets l.fn.nodes + length l.moved.items;
       same : told l.nodes ≡ told l.fn.nodes;

@@ -1,15 +1,18 @@
 use Rattle.std.proofs.Common.{inl, inr, ◌∙◌, ◌+◌, Some, ap, arith, refl, subst, sym}
 use Rattle.std.specs.Prelude.{option_map}
 use Rattle.sx_tree.specs.Value.{value_of}
+use Rattle.sx_model.specs.Edit.{replace}
 use Rattle.sx_edit.specs.Answers.{AnswersEach}
+use Rattle.sx_edit.specs.Damage.{reach_of}
 use Rattle.sx_edit.specs.Room.{CountsLevels}
 use Rattle.sx_edit.specs.Mend.{IsUprooted}
 use Rattle.sx_edit.specs.Seen.{without}
 use Rattle.sx_edit.proofs.Getting.{replace-gets}
 use Rattle.sx_edit.proofs.Results.{err_again}
 use Rattle.sx_edit.proofs.Going.{goes_itself, goes_then, record-there}
-use Rattle.sx_edit.proofs.Answering.{value-below, again-answers, at-most_broken, broken-explains_edit, broken_edit-explains, err-answers, err-answers_kept, both-explains_edit, err-explains_edit, memory-answers, no-node, refused-explains, untold-no_state}
+use Rattle.sx_edit.proofs.Answering.{value-below, again-answers, at-most_miscounted, broken-explains_edit, miscounted-explains_edit, broken_edit-explains, err-answers, err-answers_kept, both-explains_edit, err-explains_edit, memory-answers, no-node, refused-explains, untold-no_state}
 use Rattle.sx_edit.proofs.Clearing.{taken-out}
+use Rattle.sx_edit.proofs.Upward.{leaves-tree}
 use Rattle.sx_edit.proofs.Replacing.{replace-done, replace-refused, replace-stops, replace-top, replace-wrong, replacing-after}
 use Rattle.sx_edit.proofs.Splicing.{countable, cut-cannot, gap-cannot, rim-there}
 use Rattle.sx_edit.proofs.replacement.replace.Goals as goal
@@ -20,7 +23,7 @@ returns-in_err-entry-clause-answers g c =
 
 pub returns-in_err-entry-clause-fault : goal.returns-in_err-entry-clause-fault
 returns-in_err-entry-clause-fault g c =
-    err-explains_edit g.N.Records.told g.N.Records.faults g.N.RecordsMut.has_mark g.N.RecordsMut.marks c.args.next _ c.args.nodes.now c.args.nodes.now _ c.from_residual.result _ c.from_residual.ensures.1
+    err-explains_edit g.N.Records.told g.N.Records.faults g.N.RecordsMut.has_mark g.N.RecordsMut.marks (replace c.args.node (value_of c.args.value.now)) c.args.next c.args.paths.now.paths c.args.nodes.now c.args.nodes.now _ c.from_residual.result _ c.from_residual.ensures.1
     (goes_itself g.N.Records.told g.N.Records.faults g.N.RecordsMut.has_mark g.N.RecordsMut.marks c.args.nodes.now) refl (c.in_err-entry.ensures.fault c.args.next)
 
 pub returns-in_default-clause-answers : goal.returns-in_default-clause-answers
@@ -37,7 +40,7 @@ returns-in_err-parent-clause-answers g c =
 
 pub returns-in_err-parent-clause-fault : goal.returns-in_err-parent-clause-fault
 returns-in_err-parent-clause-fault g c =
-    broken-explains_edit c.args.next _ _ _ c.from_residual-in_err-parent.result _ c.from_residual-in_err-parent.ensures.1 (at-most_broken _ _ _ (c.in_err-parent.ensures.fault _ c.args.next (λ m e. sym (c.in_ok-entry.ensures.found m e) ∙ c.in-Some.is) (value-below c.in-Some.entry.kind (cc))))
+    broken-explains_edit (replace c.args.node (value_of c.args.value.now)) c.args.next _ c.args.paths.now.paths _ c.from_residual-in_err-parent.result _ c.from_residual-in_err-parent.ensures.1 (c.in_err-parent.ensures.fault _ c.args.next (λ m e. sym (c.in_ok-entry.ensures.found m e) ∙ c.in-Some.is) (value-below c.in-Some.entry.kind (cc)))
 
 pub survey-requires-clause-reached : goal.survey-requires-clause-reached
 survey-requires-clause-reached g c = c.gap_of-gap.ensures.reached _ (record-there _ _ _ c.in-Some.entry c.in_ok-entry.ensures.same (λ m e. sym (c.in_ok-entry.ensures.found m e) ∙ c.in-Some.is)) c.in_ok-parent.ensures.parent
@@ -52,7 +55,7 @@ returns-in_err-rim-clause-answers g c =
 
 pub returns-in_err-rim-clause-fault : goal.returns-in_err-rim-clause-fault
 returns-in_err-rim-clause-fault g c =
-    err-explains_edit g.N.Records.told g.N.Records.faults g.N.RecordsMut.has_mark g.N.RecordsMut.marks c.args.next _ c.args.nodes.now _ _ c.from_residual-in_err-rim.result _ c.from_residual-in_err-rim.ensures.1
+    err-explains_edit g.N.Records.told g.N.Records.faults g.N.RecordsMut.has_mark g.N.RecordsMut.marks (replace c.args.node (value_of c.args.value.now)) c.args.next c.args.paths.now.paths c.args.nodes.now _ _ c.from_residual-in_err-rim.result _ c.from_residual-in_err-rim.ensures.1
     c.in_ok-entry.ensures.goes_on c.in_ok-entry.ensures.same c.in_err-rim.ensures.fault
 
 pub returns-in_err-more-clause-answers : goal.returns-in_err-more-clause-answers
@@ -61,7 +64,7 @@ returns-in_err-more-clause-answers g c =
     c.in_ok-entry.ensures.same (omega arith) (c.in_err-more.ensures.room _ _ (subst (λ k. CountsLevels (Some k) c.args.next (g.N.Records.told c.read.new.nodes) (Some c.in_ok-rim.rim.levels)) c.gap_of-gap.ensures.parent c.in_ok-rim.ensures.counted))
 
 pub returns-in_err-more-clause-fault : goal.returns-in_err-more-clause-fault
-returns-in_err-more-clause-fault g c = err_again c.from_residual-in_err-more.result _ _ c.from_residual-in_err-more.ensures.1 (refused-explains _ _ _ _ _ c.in_err-more.ensures.fault)
+returns-in_err-more-clause-fault g c = err_again c.from_residual-in_err-more.result _ _ c.from_residual-in_err-more.ensures.1 (refused-explains (replace c.args.node (value_of c.args.value.now)) c.args.next _ c.args.paths.now.paths _ _ c.in_err-more.ensures.fault)
 
 pub returns-in_err-tree-clause-answers : goal.returns-in_err-tree-clause-answers
 returns-in_err-tree-clause-answers g c =
@@ -70,7 +73,8 @@ returns-in_err-tree-clause-answers g c =
 
 pub returns-in_err-tree-clause-fault : goal.returns-in_err-tree-clause-fault
 returns-in_err-tree-clause-fault g c =
-    broken-explains_edit c.args.next _ _ _ c.from_residual-in_err-tree.result _ c.from_residual-in_err-tree.ensures.1 (at-most_broken _ _ _ (c.in_err-tree.ensures.fault _ c.args.next (λ m e. sym (c.in_ok-entry.ensures.found m e) ∙ c.in-Some.is)))
+    miscounted-explains_edit (replace c.args.node (value_of c.args.value.now)) c.args.next _ c.args.paths.now.paths _ c.from_residual-in_err-tree.result _ c.from_residual-in_err-tree.ensures.1
+    (at-most_miscounted _ (reach_of (replace c.args.node (value_of c.args.value.now)) c.args.next (g.N.Records.told c.args.nodes.now)) _ (c.in_err-tree.ensures.fault _ (reach_of (replace c.args.node (value_of c.args.value.now)) c.args.next (g.N.Records.told c.args.nodes.now)) refl (λ m e. sym (c.in_ok-entry.ensures.found m e) ∙ c.in-Some.is)))
 
 pub returns-in_err-gone-clause-answers : goal.returns-in_err-gone-clause-answers
 returns-in_err-gone-clause-answers g c =
@@ -79,8 +83,8 @@ returns-in_err-gone-clause-answers g c =
 
 pub returns-in_err-gone-clause-fault : goal.returns-in_err-gone-clause-fault
 returns-in_err-gone-clause-fault g c =
-    both-explains_edit g.N.Records.told g.N.Records.faults g.N.RecordsMut.has_mark g.N.RecordsMut.marks c.args.next _ c.args.nodes.now _ _ c.from_residual-in_err-gone.result _ c.from_residual-in_err-gone.ensures.1
-    (goes_then g.N.Records.told g.N.Records.faults g.N.RecordsMut.has_mark g.N.RecordsMut.marks _ _ _ c.in_ok-entry.ensures.goes_on c.in_ok-rim.ensures.goes_on) (c.in_ok-rim.ensures.same ∙ c.in_ok-entry.ensures.same) c.in_err-gone.ensures.fault
+    both-explains_edit g.N.Records.told g.N.Records.faults g.N.RecordsMut.has_mark g.N.RecordsMut.marks (replace c.args.node (value_of c.args.value.now)) c.args.next c.args.paths.now.paths c.args.nodes.now _ _ c.from_residual-in_err-gone.result _ c.from_residual-in_err-gone.ensures.1
+    (goes_then g.N.Records.told g.N.Records.faults g.N.RecordsMut.has_mark g.N.RecordsMut.marks _ _ _ c.in_ok-entry.ensures.goes_on c.in_ok-rim.ensures.goes_on) (c.in_ok-rim.ensures.same ∙ c.in_ok-entry.ensures.same) (c.in_err-gone.ensures.fault (reach_of (replace c.args.node (value_of c.args.value.now)) c.args.next (g.N.Records.told c.args.nodes.now)) refl refl)
 
 pub returns-in_err-erase_all-clause-answers : goal.returns-in_err-erase_all-clause-answers
 returns-in_err-erase_all-clause-answers g c = memory-answers _ _ _ _ c.from_residual-in_err-erase_all.result c.from_residual-in_err-erase_all.ensures.1
@@ -94,8 +98,11 @@ returns-in_err-fill-clause-answers g c =
 pub returns-in_err-fill-clause-fault : goal.returns-in_err-fill-clause-fault
 returns-in_err-fill-clause-fault g c =
     err_again c.from_residual-in_err-fill.result _ _ c.from_residual-in_err-fill.ensures.1
-    (broken_edit-explains _ _ _ _ _ (c.in_err-fill.ensures.fault _ c.args.paths.now.paths (c.args.next + 1) (inr (c.args.node, (c.in-Some.entry, ((λ m e. sym (c.in_ok-entry.ensures.found m e) ∙ c.in-Some.is), c.in_ok-tree.ensures.tree.1)))) (rim-there _ _ _ _ c.in_ok-entry.ensures.same c.in_ok-rim.ensures.rim)
-    (inr (c.args.node, (c.in-Some.entry, ((λ m e. sym (c.in_ok-entry.ensures.found m e) ∙ c.in-Some.is), refl, inr (inl (omega arith)))))) c.in_ok-gone.ensures.drifts))
+    (broken_edit-explains (replace c.args.node (value_of c.args.value.now)) c.args.next (g.N.Records.told c.args.nodes.now) c.args.paths.now.paths _ _
+    (c.in_err-fill.ensures.fault (g.N.Records.told c.args.nodes.now) c.args.paths.now.paths (reach_of (replace c.args.node (value_of c.args.value.now)) c.args.next (g.N.Records.told c.args.nodes.now)) _ refl refl
+    (rim-there _ _ _ _ c.in_ok-entry.ensures.same c.in_ok-rim.ensures.rim)
+    (leaves-tree (g.N.Records.told c.args.nodes.now) (reach_of (replace c.args.node (value_of c.args.value.now)) c.args.next (g.N.Records.told c.args.nodes.now)) c.in-Some.entry _ _ c.in_ok-tree.tree (λ m e. sym (c.in_ok-entry.ensures.found m e) ∙ c.in-Some.is) c.in_ok-parent.ensures.parent c.gap_of-gap.ensures.parent c.in_ok-tree.ensures.tree.1)
+    (inr (c.in-Some.entry, ((λ m e. sym (c.in_ok-entry.ensures.found m e) ∙ c.in-Some.is), (cc), refl))) c.in_ok-gone.ensures.drifts.1.1))
 
 pub returns-clause-answers : goal.returns-clause-answers
 returns-clause-answers g c =
