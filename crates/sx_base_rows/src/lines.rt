@@ -124,12 +124,74 @@ fn commands(rt: HostRuntime) -> Result<(), Fail> {
         (b"r32: open 1", "0 refused"),
         (b"r01: open 1", "0 refused"),
         (b"r0: open 1", "0 refused"),
-        (b"text 1", "0 refused"),
+        (b"text 01", "0 refused"),
         (b" load 1", "0 refused"),
         (b"load  1", "0 edit"),
         (b"load", "0 refused"),
         (b"load [1", "0 the text ends too soon"),
         (b"r1: load [", "1 refused"),
+    ];
+    for (line, wanted) in rows {
+        let said = command(rt.alloc(), line)?;
+        assert_eq!(rt; told(rt.alloc(), &said)?.as_str(), wanted);
+    }
+    Ok(())
+}
+
+#[test]
+fn edits(rt: HostRuntime) -> Result<(), Fail> {
+    let rows: [(&[u8], &str); 20] = [
+        (b"insert first 0 1", "0 edit"),
+        (b"w: insert after 1073741823 {}\r", "0 edit"),
+        (b"insert first 1073741824 1", "0 refused"),
+        (b"insert middle 0 1", "0 refused"),
+        (b"field last 9 \"\" [true]", "0 edit"),
+        (b"field first 0 \"a\"1", "0 refused"),
+        (b"field first 0 a 1", "0 no text goes on at byte 0"),
+        (b"set 1  1.50 ", "0 edit"),
+        (b"set 1 [1]", "0 refused"),
+        (b"set 01 1", "0 refused"),
+        (b"replace 2 {\"a\":[]}", "0 edit"),
+        (b"replace 1 01", "0 no text goes on at byte 1"),
+        (b"rename 2 \"b\"", "0 edit"),
+        (b"rename 2 \"b\" ", "0 refused"),
+        (b"rename 2 x", "0 no text goes on at byte 0"),
+        (b"r1: rename 2 x", "1 refused"),
+        (b"remove 7", "0 edit"),
+        (b"remove 1 ", "0 refused"),
+        (b"remove -1", "0 refused"),
+        (b"r1: remove 2", "1 refused"),
+    ];
+    for (line, wanted) in rows {
+        let said = command(rt.alloc(), line)?;
+        assert_eq!(rt; told(rt.alloc(), &said)?.as_str(), wanted);
+    }
+    Ok(())
+}
+
+#[test]
+fn questions(rt: HostRuntime) -> Result<(), Fail> {
+    let rows: [(&[u8], &str); 20] = [
+        (b"text 0", "0 ask"),
+        (b"text 00", "0 refused"),
+        (b"r31: node 5", "31 ask"),
+        (b"node -0", "0 refused"),
+        (b"hash 1073741823", "0 ask"),
+        (b"hash 1073741824", "0 refused"),
+        (b"axis following-sibling 5", "0 ask"),
+        (b"axis up 0", "0 refused"),
+        (b"axis child  0", "0 refused"),
+        (b"path 3", "0 ask"),
+        (b"path", "0 refused"),
+        (b"r2: paths", "2 ask"),
+        (b"paths ", "0 refused"),
+        (b"select /a[]//\"b c\"", "0 ask"),
+        (b"select .", "0 ask"),
+        (b"select  .", "0 refused"),
+        (b"valid -9223372036854775808", "0 ask"),
+        (b"valid -9223372036854775809", "0 refused"),
+        (b"valid -0", "0 refused"),
+        (b"valid 1700000000000", "0 ask"),
     ];
     for (line, wanted) in rows {
         let said = command(rt.alloc(), line)?;

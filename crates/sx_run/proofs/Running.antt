@@ -1,7 +1,7 @@
 -- Items that come one behind another, and runs that go on.
 use Rattle.std.proofs.Common.{◌≡◌, ◌∙◌, ℕ, List, [], ◌∷◌, ◌++◌, refl, ap, sym, subst, append_assoc, append-nil}
 use Rattle.sx_run.specs.Item.{Item, single, quit, IsItem, AreSingles, AreItems, EndsInQuit}
-use Rattle.sx_run.specs.Run.{Room, Course, Gives, Run}
+use Rattle.sx_run.specs.Run.{Terms, Course, Gives, Run}
 use Rattle.sx_run.specs.declared.line.Line.{Line}
 
 -- one more line that does not end the run
@@ -34,17 +34,17 @@ EndsInQuit-append (single said ∷ items) = EndsInQuit-append items
 EndsInQuit-append (quit ∷ items) = tt
 
 -- a run goes on by one item
-pub Run-append : (room : Room) (old mid new : Course) (items : List Item) (item : Item) (out more : List ℕ)
-    → Run room old items out mid → Gives room mid item more new → Run room old (items ++ item ∷ []) (out ++ more) new
-Run-append room old mid new [] item out more run gives =
-    let first = subst (λ (course : Course). Gives room course item more new) run.1 gives in
+pub Run-append : (terms : Terms) (old mid new : Course) (items : List Item) (item : Item) (out more : List ℕ)
+    → Run terms old items out mid → Gives terms mid item more new → Run terms old (items ++ item ∷ []) (out ++ more) new
+Run-append terms old mid new [] item out more run gives =
+    let first = subst (λ (course : Course). Gives terms course item more new) run.1 gives in
     let bytes : out ++ more ≡ more ++ [] = ap (λ (b : List ℕ). b ++ more) run.0 ∙ sym (append-nil more) in
     (new, more, [], first, (refl, refl), bytes)
-Run-append room old mid new (first ∷ items) item out more run gives = (
+Run-append terms old mid new (first ∷ items) item out more run gives = (
   run.0,
   run.1,
   run.2 ++ more,
   run.3,
-  Run-append room run.0 mid new items item run.2 more run.4 gives,
+  Run-append terms run.0 mid new items item run.2 more run.4 gives,
   ap (λ (b : List ℕ). b ++ more) run.5 ∙ append_assoc run.1 run.2 more,
 )

@@ -6,7 +6,7 @@ use Rattle.sx_model.specs.Commit.{Commit, replay, state_of, first_time, last_tim
 use Rattle.sx_model.specs.Edit.{Edit, apply, after, edit_of, first_new}
 use Rattle.sx_model.specs.State.{State, empty_document}
 use Rattle.sx_outside.specs.Clock.{Ticks}
-use Rattle.sx_run.specs.Answers.{AnswersAt}
+use Rattle.sx_run.specs.Answers.{AnswersAt, ValidNames}
 use Rattle.sx_run.specs.Client.{client_count}
 use Rattle.sx_run.specs.Item.{Item, single, quit}
 use Rattle.sx_run.specs.Reply.{reply_bytes}
@@ -30,10 +30,12 @@ pub record Book : Type 0 where
   pub edits : List Edit
   pub stopped : Option Failure
 
--- the revision that a client has open, and the number of commits that it has seen
+-- the revision that a client has open, the number of commits that it has seen, and how many of its commands a failed read
+-- has ended
 pub record Client : Type 0 where
   pub revision : ℕ
   pub seen : ℕ
+  pub failed : ℕ
 
 pub record Course : Type 0 where
   pub book : Book
@@ -41,9 +43,12 @@ pub record Course : Type 0 where
   -- the clock's moments to come, where it tells them
   pub moments : Option (List ℤ)
 
--- What a layout of the volume has no room for: the reply to a commit that would make these commits, where there is one.
-abbrev pub Room : Type 0
-Room = List Commit → Option Said
+-- What a run needs to know of the volume.
+pub record Terms : Type 0 where
+  -- what its layout has no room for: the reply to a commit that would make these commits, where there is one
+  pub room : List Commit → Option Said
+  -- what it was born with
+  pub names : ValidNames
 
 -- the book of these commits, with nothing open
 abbrev pub book_of : List Commit → Book
@@ -51,7 +56,7 @@ book_of commits = record { commits = commits; edits = []; stopped = None }
 
 -- a run begins over these commits, with all of them seen and revision 0 open
 abbrev pub started : List Commit → Option (List ℤ) → Course
-started commits moments = record { book = book_of commits; clients = replicate client_count (record { revision = 0; seen = length commits }); moments = moments }
+started commits moments = record { book = book_of commits; clients = replicate client_count (record { revision = 0; seen = length commits; failed = 0 }); moments = moments }
 
 -- the state of the last commit with the open edits applied
 abbrev pub current : Book → State
@@ -103,55 +108,64 @@ with_client old client now = record old { clients = slice_set old.clients client
 
 -- no client is there
 abbrev pub nobody : Client
-nobody = record { revision = 0; seen = 0 }
+nobody = record { revision = 0; seen = 0; failed = 0 }
 
-abbrev pub revision_of : Course → ℕ → ℕ
-revision_of course client = (get_or course.clients client nobody).revision
+abbrev pub client_of : Course → ℕ → Client
+client_of course client = get_or course.clients client nobody
+
+-- A read of the client's end failed, and nothing else is changed.
+abbrev pub FailsRead : Course → ℕ → Said → Course → Type 0
+FailsRead old client reply new =
+    let part = client_of old client in
+    (reply ≡ said.Failed) × (new ≡ with_client old client (record part { failed = part.failed + 1 }))
 
 -- An open looks, and sees all commits. The revision that is asked for is opened, if it is there.
 abbrev pub AnswersOpen : Course → ℕ → Which → Said → Course → Type 0
 AnswersOpen old client revisions.Latest reply new =
     let seen = length old.book.commits in
-    (reply ≡ said.Opened seen) × (new ≡ with_client old client (record { revision = seen; seen = seen }))
+    (reply ≡ said.Opened seen) × (new ≡ with_client old client (record (client_of old client) { revision = seen; seen = seen }))
 AnswersOpen old client (revisions.Number r) reply new =
     let seen = length old.book.commits in
     MatchBool (nat_le r seen)
-    ((reply ≡ said.Opened r) × (new ≡ with_client old client (record { revision = r; seen = seen })))
-    ((reply ≡ said.Missing r seen) × (new ≡ with_client old client (record { revision = revision_of old client; seen = seen })))
+    ((reply ≡ said.Opened r) × (new ≡ with_client old client (record (client_of old client) { revision = r; seen = seen })))
+    ((reply ≡ said.Missing r seen) × (new ≡ with_client old client (record (client_of old client) { seen = seen })))
 
--- What a command of a client answers, and what it leaves.
-abbrev pub Answers : Room → Course → ℕ → Command → Said → Course → Type 0
-Answers room old client (commands.Edit edit) reply new =
+-- What a command of a client answers, and what it leaves. An edit and a commit may read the writer's end, and a question that of
+-- its client.
+abbrev pub Answers : Terms → Course → ℕ → Command → Said → Course → Type 0
+Answers terms old client (commands.Edit edit) reply new =
     IfStopped old.book.stopped reply (new ≡ old)
-    ((book : Book) × AnswersEdit old.book (edit_of edit) reply book × (new ≡ record old { book = book }))
-Answers room old client commands.Rollback reply new = (reply ≡ said.Done) × (new ≡ record old { book = record old.book { edits = [] } })
+    (((book : Book) × AnswersEdit old.book (edit_of edit) reply book × (new ≡ record old { book = book })) ⊎ FailsRead old client reply new)
+Answers terms old client commands.Rollback reply new = (reply ≡ said.Done) × (new ≡ record old { book = record old.book { edits = [] } })
 -- the clock is asked once, unless the writer is stopped
-Answers room old client commands.Commit reply new =
+Answers terms old client commands.Commit reply new =
     IfStopped old.book.stopped reply (new ≡ old)
-    ((moment : ℤ) × (book : Book) × FitsSigned w64 moment × Ticks old.moments moment new.moments
-    × AnswersCommit (room (with_commit old.book (next_commit old.book moment)).commits) old.book (next_commit old.book moment) reply book
+    ((moment : ℤ) × FitsSigned w64 moment × Ticks old.moments moment new.moments
+    × (((book : Book) × AnswersCommit (terms.room (with_commit old.book (next_commit old.book moment)).commits) old.book (next_commit old.book moment) reply book
     × (new ≡ record old { book = book; moments = new.moments }))
-Answers room old client (commands.Open which) reply new = AnswersOpen old client which reply new
-Answers room old client (commands.Ask query) reply new = AnswersAt (state_of old.book.commits (revision_of old client)) query reply × (new ≡ old)
-Answers room old client commands.Quit reply new = ⊥
+    ⊎ FailsRead (record old { moments = new.moments }) client reply new))
+Answers terms old client (commands.Open which) reply new = AnswersOpen old client which reply new
+Answers terms old client (commands.Ask query) reply new =
+    (AnswersAt terms.names (state_of old.book.commits (client_of old client).revision) query reply × (new ≡ old)) ⊎ FailsRead old client reply new
+Answers terms old client commands.Quit reply new = ⊥
 
 -- ---- runs
 
 -- What a line writes, and what it leaves.
-abbrev pub Replies : Room → Course → Line → List ℕ → Course → Type 0
-Replies room old lines.Skip out new = (out ≡ []) × (new ≡ old)
-Replies room old (lines.Refused client) out new = (out ≡ reply_bytes None said.NoCommand) × (new ≡ old)
-Replies room old (lines.BadJson client fault) out new = (out ≡ reply_bytes None (said.Json fault)) × (new ≡ old)
-Replies room old (lines.Command client command) out new = (reply : Said) × Answers room old client command reply new × (out ≡ reply_bytes None reply)
+abbrev pub Replies : Terms → Course → Line → List ℕ → Course → Type 0
+Replies terms old lines.Skip out new = (out ≡ []) × (new ≡ old)
+Replies terms old (lines.Refused client) out new = (out ≡ reply_bytes None said.NoCommand) × (new ≡ old)
+Replies terms old (lines.BadJson client fault) out new = (out ≡ reply_bytes None (said.Json fault)) × (new ≡ old)
+Replies terms old (lines.Command client command) out new = (reply : Said) × Answers terms old client command reply new × (out ≡ reply_bytes None reply)
 
 -- What an item writes, and what it leaves.
-abbrev pub Gives : Room → Course → Item → List ℕ → Course → Type 0
-Gives room old (single line) out new = Replies room old line out new
-Gives room old quit out new = (out ≡ []) × (new ≡ old)
+abbrev pub Gives : Terms → Course → Item → List ℕ → Course → Type 0
+Gives terms old (single line) out new = Replies terms old line out new
+Gives terms old quit out new = (out ≡ []) × (new ≡ old)
 
 -- the items in their order write these bytes
-abbrev pub Run : Room → Course → List Item → List ℕ → Course → Type 0
-Run room old [] out new = (out ≡ []) × (new ≡ old)
-Run room old (item ∷ items) out new =
+abbrev pub Run : Terms → Course → List Item → List ℕ → Course → Type 0
+Run terms old [] out new = (out ≡ []) × (new ≡ old)
+Run terms old (item ∷ items) out new =
     (mid : Course) × (written : List ℕ) × (rest : List ℕ)
-    × Gives room old item written mid × Run room mid items rest new × (out ≡ written ++ rest)
+    × Gives terms old item written mid × Run terms mid items rest new × (out ≡ written ++ rest)

@@ -1,11 +1,16 @@
+pub mod EditEnds
+pub mod EditParts
 pub mod Feeds
 pub mod Following
+pub mod Found
 pub mod Fronts
 pub mod Growing
 pub mod Kept
 pub mod Numbers
+pub mod OneFront
 pub mod Pieces
 pub mod Pulling
+pub mod Quoted
 pub mod Readers
 pub mod Saying
 pub mod Spelt

@@ -1,20 +1,17 @@
 -- Names of readers.
-use Rattle.std.proofs.Common.{◌≡◌, ◌∙◌, Option, None, Some, IfNone, ℕ, zero, suc, ◌+◌, ◌<◌, ◌^◌, ◌%◌, List, [], ◌∷◌, ◌++◌, length, take, drop, slice_range, ◌-◌, refl, ap, sym, arith}
+use Rattle.std.proofs.Common.{◌≡◌, ◌∙◌, ℕ, zero, suc, ◌<◌, ◌^◌, List, ◌∷◌, ◌++◌, length, take, drop, slice_range, ◌-◌, ap, sym, arith}
 use Rattle.std.specs.Fmt.{decimal}
 use Rattle.std.proofs.Math.Seq.{drop-append_seam}
-use Rattle.std.proofs.lemmas.Fmt.{decimal_by_steps, decimal_injective}
+use Rattle.std.proofs.lemmas.Fmt.{decimal_injective}
 use Rattle.std.proofs.lemmas.List.{take-append-drop, take_all, length-drop}
 use Rattle.sx_run.specs.Client.{Names}
 use Rattle.sx_script.specs.Words.{front_of}
-use Rattle.sx_script.proofs.Fronts.{Lacks, Lacks-append, front_of-append}
+use Rattle.sx_script.proofs.Fronts.{Lacks, front_of-append}
+use Rattle.sx_script.proofs.Numbers.{Lacks-decimal}
 
 -- no colon stands in a number
 no_colon : (n : ℕ) → n < 2 ^ 64 → Lacks 58 (decimal n)
-no_colon n below =
-    decimal_by_steps (λ k digits. Lacks 58 digits)
-    (λ k small. (omega (arith, small), tt))
-    (λ k digits large lacks. Lacks-append 58 digits ((48 + k % 10) ∷ []) lacks (let digit : k % 10 < 10 = omega arith in (omega (arith, digit), tt)))
-    n below
+no_colon n below = Lacks-decimal 58 n (λ digit small. omega (arith, small)) below
 
 -- the bytes from a place on
 pub rest_range : (bytes : List ℕ) (k : ℕ) → slice_range bytes k (length bytes) ≡ drop k bytes
@@ -49,8 +46,3 @@ name_parts line named digits i text begins front names =
 -- the number that was found is the reader's
 pub same_reader : (digits : List ℕ) (n i : ℕ) → digits ≡ decimal n → n < 2 ^ 32 → digits ≡ decimal (suc i) → suc i < 32 → n ≡ suc i
 same_reader digits n i is below also known = decimal_injective n (suc i) (omega (arith, below)) (omega (arith, known)) (sym is ∙ also)
-
--- What holds where nothing was found.
-pub at_none : {A : Type 0} (found : Option A) (P : Type 0) → ((x : A) → found ≡ Some x → ⊥) → IfNone found P → P
-at_none None P never holds = holds
-at_none (Some x) P never holds = absurd (never x refl)

@@ -1,61 +1,56 @@
--- What a text spells by its first word, and what a line that is read keeps.
-use Rattle.std.proofs.Common.{◌≡◌, ◌∙◌, ℕ, ◌<◌, List, ◌++◌, Option, Some, None, Result, Ok, Err, IfOk, ap, sym, subst, refl, arith, rules}
+-- What a text spells where no part of a command was found, and what a line that is read keeps.
+use Rattle.std.proofs.Common.{◌≡◌, ℕ, ℤ, ◌<◌, List, Option, Some, None, Result, Ok, Err, IfOk, sym, subst, arith}
 use Rattle.std.specs.Prelude.{codes}
-use Rattle.std.specs.Str.{IsAscii, IsUtf8}
-use Rattle.std.proofs.lemmas.Str.{IsUtf8-from_ascii}
 use Rattle.sx_model.proofs.Within.{spells_within}
 use Rattle.sx_run.specs.Client.{Asks, whose}
 use Rattle.sx_run.specs.Line.{SaysShort, SpellsNone}
-use Rattle.sx_run.specs.Spelling.{SpellsCommand, SpellsEdit, SpellsQuery}
+use Rattle.sx_run.specs.Spelling.{SpellsCommand, SpellsEdit, SpellsFault, SpellsNumbered, SpellsQuery}
 use Rattle.sx_run.specs.declared.line.Command.{Command}
 use Rattle.sx_run.specs.declared.line.Command.TheVariants as commands
 use Rattle.sx_run.specs.declared.line.Line.{Line}
 use Rattle.sx_run.specs.declared.line.Line.TheVariants as lines
+use Rattle.sx_script.specs.Commands.{HasNumber, IsAxis, IsOpen, IsPlain, IsSelection, IsValidAt}
 use Rattle.sx_script.specs.Told.{HasFault, IsCommandWithin, IsEditWithin, IsWithin}
-use Rattle.sx_script.specs.Words.{front_of}
 use Rattle.sx_tree.specs.declared.edit.Edit.{Edit}
 use Rattle.sx_tree.specs.declared.edit.Edit.TheVariants as edits
+use Rattle.sx_tree.specs.declared.json_fault.JsonFault.{JsonFault}
+use Rattle.sx_tree.specs.declared.query.Axis.{Axis}
 use Rattle.sx_tree.specs.declared.query.Query.{Query}
 use Rattle.sx_tree.specs.declared.query.Query.TheVariants as queries
-use Rattle.sx_tree.specs.Value.{value_of}
+use Rattle.sx_tree.specs.declared.query.Which.{Which}
+use Rattle.sx_tree.specs.declared.steps.PathStep.{PathStep}
+use Rattle.sx_tree.specs.Value.{scalar, value_of}
 
--- ---- the first word of a command is text
+-- ---- where no part was found
 
-plain_word : (text whole word : List ℕ) → text ≡ whole → front_of 32 whole ≡ word → IsAscii word → IsUtf8 (front_of 32 text)
-plain_word text whole word is front plain =
-    subst (λ (bytes : List ℕ). IsUtf8 bytes) (sym (ap (front_of 32) is ∙ front)) (IsUtf8-from_ascii word plain)
+pub no_number : (text : List ℕ) → ((k : ℕ) → SpellsNumbered text (codes "text") k → ⊥) → ((k : ℕ) → SpellsNumbered text (codes "node") k → ⊥)
+    → ((k : ℕ) → SpellsNumbered text (codes "hash") k → ⊥) → ((k : ℕ) → SpellsNumbered text (codes "path") k → ⊥)
+    → (q : Query) → HasNumber q → SpellsQuery text q → ⊥
+no_number text of_text of_node of_hash of_path (queries.Text k) has spells = of_text k spells
+no_number text of_text of_node of_hash of_path (queries.Node k) has spells = of_node k spells
+no_number text of_text of_node of_hash of_path (queries.Hash k) has spells = of_hash k spells
+no_number text of_text of_node of_hash of_path (queries.Path p) has spells = of_path p spells
+no_number text of_text of_node of_hash of_path q has spells = absurd has
 
-load_word : (text json : List ℕ) → text ≡ codes "load " ++ json → IsUtf8 (front_of 32 text)
-load_word text json is = plain_word text (codes "load " ++ json) (codes "load") is refl (search rules)
+pub no_query : (text : List ℕ) → ((q : Query) → HasNumber q → SpellsQuery text q → ⊥) → ((a : Axis) (k : ℕ) → IsAxis text a k → ⊥)
+    → ((steps : List PathStep) → IsSelection text steps → ⊥) → ((t : ℤ) → IsValidAt text t → ⊥) → (text ≡ codes "paths" → ⊥)
+    → (q : Query) → SpellsQuery text q → ⊥
+no_query text number axis selection valid paths (queries.Axis a k) spells = axis a k spells
+no_query text number axis selection valid paths queries.Paths spells = paths spells
+no_query text number axis selection valid paths (queries.Select path) spells = selection path.steps spells
+no_query text number axis selection valid paths (queries.Valid t) spells = valid t spells
+no_query text number axis selection valid paths q spells = number q tt spells
 
-edit_word : (text : List ℕ) (edit : Edit) → SpellsEdit text edit → IsUtf8 (front_of 32 text)
-edit_word text (edits.Load value) spells = load_word text spells.0 spells.1
-edit_word text (edits.Insert place name value) spells = absurd spells
-edit_word text (edits.SetScalar node value) spells = absurd spells
-edit_word text (edits.Replace node value) spells = absurd spells
-edit_word text (edits.Rename node name) spells = absurd spells
-edit_word text (edits.Remove node) spells = absurd spells
-
-query_word : (text : List ℕ) (query : Query) → SpellsQuery text query → IsUtf8 (front_of 32 text)
-query_word text (queries.Text node) spells = plain_word text (codes "text 0") (codes "text") spells.1 refl (search rules)
-query_word text (queries.Node node) spells = absurd spells
-query_word text (queries.Hash node) spells = absurd spells
-query_word text (queries.Axis axis node) spells = absurd spells
-query_word text (queries.Path path) spells = absurd spells
-query_word text queries.Paths spells = absurd spells
-query_word text (queries.Select path) spells = absurd spells
-query_word text (queries.Valid moment) spells = absurd spells
-
-command_word : (named : Option ℕ) (text : List ℕ) (said : Command) → SpellsCommand named text said → IsUtf8 (front_of 32 text)
-command_word named text (commands.Edit edit) spells = edit_word text edit spells.1
-command_word named text commands.Rollback spells = plain_word text (codes "rollback") (codes "rollback") spells.1 refl (search rules)
-command_word named text commands.Commit spells = plain_word text (codes "commit") (codes "commit") spells.1 refl (search rules)
-command_word named text (commands.Open which) spells = plain_word text (codes "open " ++ spells.0) (codes "open") spells.1 refl (search rules)
-command_word named text (commands.Ask query) spells = query_word text query spells
-command_word named text commands.Quit spells = plain_word text (codes "quit") (codes "quit") spells.1 refl (search rules)
-
-pub none_spelt : (named : Option ℕ) (text : List ℕ) → (IsUtf8 (front_of 32 text) → ⊥) → SpellsNone named text
-none_spelt named text never = (λ said spells. never (command_word named text said spells), λ fault spells. never (load_word text spells.1 spells.2))
+pub none_spelt : (named : Option ℕ) (text : List ℕ) → ((said : Command) → IsPlain said → SpellsCommand named text said → ⊥)
+    → ((which : Which) → IsOpen text which → ⊥) → ((e : Edit) → SpellsCommand named text (commands.Edit e) → ⊥)
+    → ((q : Query) → SpellsQuery text q → ⊥) → ((f : JsonFault) → SpellsFault named text f → ⊥) → SpellsNone named text
+none_spelt named text plain opens edit query fault = (never, fault)
+  where
+    never : (said : Command) → SpellsCommand named text said → ⊥
+    never (commands.Edit e) spells = edit e spells
+    never (commands.Open which) spells = opens which spells
+    never (commands.Ask q) spells = query q spells
+    never said spells = plain said tt spells
 
 -- ---- what is read is within the limits
 
@@ -65,11 +60,14 @@ whose_known line (Some client) text asks = asks.known
 
 edit_within : (text : List ℕ) (edit : Edit) → SpellsEdit text edit → IsEditWithin edit
 edit_within text (edits.Load value) spells = spells_within spells.0 (value_of value) spells.2
-edit_within text (edits.Insert place name value) spells = absurd spells
-edit_within text (edits.SetScalar node value) spells = absurd spells
-edit_within text (edits.Replace node value) spells = absurd spells
-edit_within text (edits.Rename node name) spells = absurd spells
-edit_within text (edits.Remove node) spells = absurd spells
+edit_within text (edits.Insert place None value) spells =
+    let within = spells_within spells.0 (value_of value) spells.2 in ((tt, within.0), within.1)
+edit_within text (edits.Insert place (Some name) value) spells =
+    let within = spells_within spells.1 (value_of value) spells.4 in ((spells.3.2.1, within.0), within.1)
+edit_within text (edits.SetScalar node value) spells = ((spells_within spells.0 (scalar value) spells.2).0, tt)
+edit_within text (edits.Replace node value) spells = spells_within spells.0 (value_of value) spells.2
+edit_within text (edits.Rename node name) spells = (spells.2.2.1, tt)
+edit_within text (edits.Remove node) spells = (tt, tt)
 
 command_within : (named : Option ℕ) (text : List ℕ) (said : Command) → SpellsCommand named text said → IsCommandWithin said
 command_within named text (commands.Edit edit) spells = edit_within text edit spells.1

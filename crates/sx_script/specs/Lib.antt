@@ -1,3 +1,5 @@
+pub mod Commands
+pub mod Edits
 pub mod Reading
 pub mod Told
 pub mod Waiting

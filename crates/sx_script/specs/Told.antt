@@ -1,6 +1,6 @@
 -- What can be told of a line.
 use Rattle.std.specs.Prelude.{◌<◌, ◌≤◌}
-use Rattle.sx_model.specs.Limits.{KeepsLimits}
+use Rattle.sx_model.specs.Edit.{IsEdit, edit_of}
 use Rattle.sx_run.specs.Client.{client_count}
 use Rattle.sx_run.specs.declared.line.Command.{Command}
 use Rattle.sx_run.specs.declared.line.Command.TheVariants as commands
@@ -52,14 +52,18 @@ HasFault (lines.Refused client) = Unit {0}
 HasFault (lines.BadJson client fault) = IsOfText fault
 HasFault (lines.Command client said) = Unit {0}
 
--- the value of a `load` keeps the limits of JSON texts, and there is no other edit
+-- at most 256 arrays and objects nest in its value
+abbrev pub Nests : Edit → Type 0
+Nests (edits.Load value) = depth (value_of value) ≤ 256
+Nests (edits.Insert place name value) = depth (value_of value) ≤ 256
+Nests (edits.SetScalar node value) = Unit {0}
+Nests (edits.Replace node value) = depth (value_of value) ≤ 256
+Nests (edits.Rename node name) = Unit {0}
+Nests (edits.Remove node) = Unit {0}
+
+-- its value and its name keep the limits of JSON texts
 abbrev pub IsEditWithin : Edit → Type 0
-IsEditWithin (edits.Load value) = KeepsLimits (value_of value) × (depth (value_of value) ≤ 256)
-IsEditWithin (edits.Insert place name value) = ⊥
-IsEditWithin (edits.SetScalar node value) = ⊥
-IsEditWithin (edits.Replace node value) = ⊥
-IsEditWithin (edits.Rename node name) = ⊥
-IsEditWithin (edits.Remove node) = ⊥
+IsEditWithin edit = IsEdit (edit_of edit) × Nests edit
 
 abbrev pub IsCommandWithin : Command → Type 0
 IsCommandWithin (commands.Edit edit) = IsEditWithin edit

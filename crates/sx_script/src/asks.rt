@@ -1,116 +1,80 @@
-//! What a client asks by a text, command by command.
-ghost use Rattle.std.specs.Prelude.{◌≡◌, codes, IfOk, IfNone, IfSome};
+//! What a client asks by a text.
+ghost use Rattle.std.specs.Prelude.{◌≡◌, IfOk, IfNone, IfSome};
 ghost use Rattle.sx_run.specs.Client.{whose};
-ghost use Rattle.sx_run.specs.Spelling.{SpellsWhich};
+ghost use Rattle.sx_run.specs.Spelling.{SpellsCommand, SpellsFault, SpellsWhich};
+ghost use Rattle.sx_run.specs.declared.line.Command.{Command as Asked};
+ghost use Rattle.sx_script.specs.Commands.{AsksNoEdit, IsOpen, IsPlain};
 ghost use Rattle.sx_script.specs.Told.{HasFault};
-ghost use Rattle.sx_script.specs.Words.{SaysText, front_of};
+ghost use Rattle.sx_script.specs.Words.{SaysText};
+ghost use Rattle.sx_tree.specs.declared.json_fault.JsonFault.{JsonFault as Fault};
 ghost use Rattle.sx_tree.specs.declared.query.Which.{Which as WhichRevision};
 
 use crate::clients::whose;
-use crate::words::{decimal_number, front};
+use crate::edits::{EditText, edit};
+use crate::questions::question;
+use crate::words::{behind, decimal_number};
 use std::alloc::{AllocError, Global};
-use std::str;
 use sx_run::{Command, Line};
-use sx_tree::edit::Edit;
-use sx_tree::json_fault::JsonFault;
-use sx_tree::query::{Query, Which};
+use sx_tree::query::Which;
 
-/// What the client asks by the text, by its first word.
+/// What the client asks by the text.
 pub(crate) fn asked(alloc: Global, client: Option<u32>, text: &[u8]) -> Result<Line, AllocError>
     ensures says { IfOk result (SaysText client text.now) }
     ensures fault { IfOk result HasFault }
 {
-    let Ok(word) = str::from_utf8(front(text, b' ')) else {
-        return Ok(refused(client));
-    };
-    match word {
-        "load" => load(alloc, client, text),
-        "rollback" => Ok(rollback(client, text)),
-        "commit" => Ok(commit(client, text)),
-        "open" => open(alloc, client, text),
-        "text" => Ok(ask_text(client, text)),
-        "quit" => Ok(quit(client, text)),
-        _ => Ok(refused(client)),
+    if let Some(command) = plain(client, text) {
+        return Ok(asks(client, command));
     }
-}
-
-/// No command.
-fn refused(client: Option<u32>) -> Line
-    ensures { result ≡ Line.Refused (whose client) }
-{
-    Line::Refused {
-        client: whose(client),
+    if let Some(which) = opened(alloc, text)? {
+        return Ok(asks(client, Command::Open(which)));
     }
-}
-
-/// `load VALUE`, where VALUE is the rest of the line.
-fn load(alloc: Global, client: Option<u32>, text: &[u8]) -> Result<Line, AllocError>
-    requires { front_of 32 text.now ≡ codes "load" }
-    ensures says { IfOk result (SaysText client text.now) }
-    ensures fault { IfOk result HasFault }
-{
-    if whose(client) != 0 {
-        return Ok(refused(client));
+    if let Some(line) = edit_line(alloc, client, text)? {
+        return Ok(line);
     }
-    let Some(json) = text.strip_prefix(b"load ") else {
-        return Ok(refused(client));
-    };
-    match sx_json::read(alloc, json) {
-        Ok(value) => Ok(Line::Command {
-            client: 0,
-            command: Command::Edit(Edit::Load { value }),
+    match question(alloc, text)? {
+        Some(query) => Ok(asks(client, Command::Ask(query))),
+        None => Ok(Line::Refused {
+            client: whose(client),
         }),
-        Err(JsonFault::OutOfMemory) => Err(AllocError),
-        Err(fault) => Ok(Line::BadJson { client: 0, fault }),
     }
 }
 
-fn rollback(client: Option<u32>, text: &[u8]) -> Line
-    requires { front_of 32 text.now ≡ codes "rollback" }
-    ensures says { SaysText client text.now result }
-    ensures fault { HasFault result }
+/// The command of the client.
+fn asks(client: Option<u32>, command: Command) -> Line
+    ensures { result ≡ Line.Command (whose client) command }
+{
+    Line::Command {
+        client: whose(client),
+        command,
+    }
+}
+
+/// `rollback` or `commit` of the writer, or `quit` where no client is named.
+fn plain(client: Option<u32>, text: &[u8]) -> Option<Command>
+    ensures found { IfSome result (SpellsCommand client text.now) }
+    ensures none { IfNone result ((said : Asked) → IsPlain said → SpellsCommand client text.now said → ⊥) }
 {
     if whose(client) == 0 && text == b"rollback".as_slice() {
-        Line::Command {
-            client: 0,
-            command: Command::Rollback,
-        }
-    } else {
-        refused(client)
+        return Some(Command::Rollback);
     }
-}
-
-fn commit(client: Option<u32>, text: &[u8]) -> Line
-    requires { front_of 32 text.now ≡ codes "commit" }
-    ensures says { SaysText client text.now result }
-    ensures fault { HasFault result }
-{
     if whose(client) == 0 && text == b"commit".as_slice() {
-        Line::Command {
-            client: 0,
-            command: Command::Commit,
-        }
-    } else {
-        refused(client)
+        return Some(Command::Commit);
     }
+    if client.is_none() && text == b"quit".as_slice() {
+        return Some(Command::Quit);
+    }
+    None
 }
 
 /// `open latest`, or `open R` with a revision.
-fn open(alloc: Global, client: Option<u32>, text: &[u8]) -> Result<Line, AllocError>
-    requires { front_of 32 text.now ≡ codes "open" }
-    ensures says { IfOk result (SaysText client text.now) }
-    ensures fault { IfOk result HasFault }
+fn opened(alloc: Global, text: &[u8]) -> Result<Option<Which>, AllocError>
+    ensures found { IfOk result (λ found. IfSome found (IsOpen text.now)) }
+    ensures none { IfOk result (λ found. IfNone found ((which : WhichRevision) → IsOpen text.now which → ⊥)) }
 {
-    let Some(revision) = text.strip_prefix(b"open ") else {
-        return Ok(refused(client));
-    };
-    Ok(match which(alloc, revision)? {
-        Some(which) => Line::Command {
-            client: whose(client),
-            command: Command::Open(which),
-        },
-        None => refused(client),
-    })
+    match behind(text, b"open") {
+        Some(revision) => which(alloc, revision),
+        None => Ok(None),
+    }
 }
 
 /// `latest`, or a revision's number.
@@ -127,34 +91,22 @@ fn which(alloc: Global, revision: &[u8]) -> Result<Option<Which>, AllocError>
     }
 }
 
-/// `text 0`, the text of the document.
-fn ask_text(client: Option<u32>, text: &[u8]) -> Line
-    requires { front_of 32 text.now ≡ codes "text" }
-    ensures says { SaysText client text.now result }
-    ensures fault { HasFault result }
+/// An edit of the writer, or one but for its NAME or VALUE. A reader has none, whatever the text is.
+fn edit_line(alloc: Global, client: Option<u32>, text: &[u8]) -> Result<Option<Line>, AllocError>
+    ensures found { IfOk result (λ found. IfSome found (SaysText client text.now)) }
+    ensures fault { IfOk result (λ found. IfSome found HasFault) }
+    ensures no_edit { IfOk result (λ found. IfNone found (AsksNoEdit client text.now)) }
+    ensures no_fault { IfOk result (λ found. IfNone found ((f : Fault) → SpellsFault client text.now f → ⊥)) }
 {
-    if text == b"text 0".as_slice() {
-        Line::Command {
-            client: whose(client),
-            command: Command::Ask(Query::Text(0)),
-        }
-    } else {
-        refused(client)
+    if whose(client) != 0 {
+        return Ok(None);
     }
-}
-
-/// The end of the run, which names no client.
-fn quit(client: Option<u32>, text: &[u8]) -> Line
-    requires { front_of 32 text.now ≡ codes "quit" }
-    ensures says { SaysText client text.now result }
-    ensures fault { HasFault result }
-{
-    if client.is_none() && text == b"quit".as_slice() {
-        Line::Command {
+    match edit(alloc, text)? {
+        EditText::Edit(edit) => Ok(Some(Line::Command {
             client: 0,
-            command: Command::Quit,
-        }
-    } else {
-        refused(client)
+            command: Command::Edit(edit),
+        })),
+        EditText::Fault(fault) => Ok(Some(Line::BadJson { client: 0, fault })),
+        EditText::Other => Ok(None),
     }
 }

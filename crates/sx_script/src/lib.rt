@@ -6,10 +6,13 @@ mod asks;
 mod chunk;
 mod clients;
 mod commands;
+mod edits;
 mod feed;
+mod heads;
 mod line_reader;
 mod node;
 mod partial;
+mod questions;
 mod replies;
 mod words;
 

@@ -1,12 +1,14 @@
-use Rattle.std.proofs.Common.{List, ℕ, subst, sym}
-use Rattle.std.specs.Str.{IsUtf8}
-use Rattle.sx_script.specs.Words.{SaysText}
-use Rattle.sx_run.specs.declared.line.Line.{Line}
+use Rattle.sx_script.proofs.Found.{at_none, none_told}
 use Rattle.sx_script.proofs.Spelt.{none_spelt}
 use Rattle.sx_script.proofs.asks.asked.Goals as goal
-use Rattle.std.proofs.Common.{refl}
 
-pub returns-in_default-clause-says : goal.returns-in_default-clause-says
-returns-in_default-clause-says c =
-    subst (λ (said : Line). SaysText c.args.client c.args.text.now said) (sym c.refused.ensures)
-    (refl, none_spelt c.args.client c.args.text.now (λ utf8. c.in_default.ensures.cases.0 (subst (λ (bytes : List ℕ). IsUtf8 bytes) (sym c.front.ensures.front) utf8)))
+pub returns-in-None-clause-says : goal.returns-in-None-clause-says
+returns-in-None-clause-says c = (
+  c.whose.ensures,
+  none_spelt c.args.client c.args.text.now
+      (at_none c.plain.result _ c.in_default.not-Some c.plain.ensures.none)
+      (at_none c.in_ok-which.field-0 _ c.in_default-2.not-Some c.in_ok-which.ensures.none)
+      (at_none c.in_ok-line.field-0 _ c.in_default-3.not-Some c.in_ok-line.ensures.no_edit)
+      (none_told c.in_ok-query.field-0 _ c.in-None.is c.in_ok-query.ensures.none)
+      (at_none c.in_ok-line.field-0 _ c.in_default-3.not-Some c.in_ok-line.ensures.no_fault),
+)

@@ -2,7 +2,8 @@ use Rattle.std.proofs.Common.{◌≡◌, ◌∙◌, ℕ, ◌<◌, ◌^◌, [], �
 use Rattle.std.specs.Fmt.{decimal}
 use Rattle.std.proofs.lemmas.Bool.Decides.{Decides-eqb}
 use Rattle.std.proofs.lemmas.Slice.Eq.{strip_prefix_is}
-use Rattle.sx_script.proofs.Readers.{at_none, named_by, name_parts, rest_range, same_reader}
+use Rattle.sx_script.proofs.Found.{at_none}
+use Rattle.sx_script.proofs.Readers.{named_by, name_parts, rest_range, same_reader}
 use Rattle.sx_script.proofs.clients.reader_of.Goals as goal
 use Rattle.sx_script.proofs.clients.reader_of.Goals.{in_default-2-via-in-Some-2+then-reader-gt0+else-reader-lt-CLIENTS, in_default-2-via-in-Some-2+else-reader-gt0, in_default-2-via-in_default-2}
 
