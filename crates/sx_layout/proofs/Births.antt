@@ -9,8 +9,8 @@ use Rattle.sha2.proofs.Facts256.{length-sha256}
 use Rattle.sha2.specs.Sha256.{sha256}
 use Rattle.sx_frame.specs.Violation.{Violation, tell}
 use Rattle.sx_layout.proofs.Broken.{unbroken}
-use Rattle.sx_layout.proofs.Heads.{same_front}
-use Rattle.sx_layout.specs.Birth.{AreFields, Birth, BirthFields, IsBirth, IsName, are_names, birth_part, birth_rules, fields_bytes, fields_of, is_name, magic, padded, part_bytes, told_birth, undigested}
+use Rattle.sx_layout.proofs.Fronts.{same_front}
+use Rattle.sx_layout.specs.Birth.{AreFields, Birth, BirthFields, IsBirth, IsName, are_names, birth_part, birth_rules, fields_bytes, fields_of, is_name, magic, padded, part_bytes, told_birth, undigested, whole_format}
 use Rattle.sx_layout.specs.Rule.{first_broken}
 
 length-padded : (name : List ℕ) → length name ≤ 64 → length (padded name) ≡ 64
@@ -81,7 +81,7 @@ birth_kept birth is =
     let at_names = (not (are_names fields), tell 4 0 fields.from_length) ∷ [] in
     let at_window = (nat_lt fields.window 1 || nat_lt 8 fields.window, tell 3 8 fields.window) ∷ at_names in
     unbroken (not (bytes_eq fields.digest (sha256 (fields_bytes fields)))) (record { rule = 1; kept = fields.digest; found = sha256 (fields_bytes fields) })
-    ((not (fields.format == 1), tell 2 1 fields.format) ∷ at_window) digest
+    ((not (fields.format == whole_format), tell 2 whole_format fields.format) ∷ at_window) digest
     ∙ unbroken (nat_lt fields.window 1 || nat_lt 8 fields.window) (tell 3 8 fields.window) at_names window
     ∙ unbroken (not (are_names fields)) (tell 4 0 fields.from_length) [] names
 
@@ -111,13 +111,13 @@ name_told count bytes long holds =
 window_told : (window : ℕ) → (nat_lt window 1 || nat_lt 8 window) ≡ false → (1 ≤ window) × (window ≤ 8)
 window_told window holds = (grind (arith, nat_tests), grind (arith, nat_tests))
 
-format_told : (format : ℕ) → not (format == 1) ≡ false → format ≡ 1
+format_told : (format : ℕ) → not (format == whole_format) ≡ false → format ≡ whole_format
 format_told format holds = grind (arith, nat_tests)
 
 names_told : (a b : List ℕ) → not (bytes_eq a b) ≡ true → a ≢ b
 names_told a b holds same = let equal = (bytes_eq-Decides a b).1 same in let never : not true ≡ true = ap not (sym equal) ∙ holds in cc never
 
-fields_told : (fields : BirthFields) → fields.format ≡ 1 → fields.digest ≡ sha256 (fields_bytes fields) → fields.from_length ≡ length (told_birth fields).from → fields.from ≡ padded (told_birth fields).from
+fields_told : (fields : BirthFields) → fields.format ≡ whole_format → fields.digest ≡ sha256 (fields_bytes fields) → fields.from_length ≡ length (told_birth fields).from → fields.from ≡ padded (told_birth fields).from
     → fields.to_length ≡ length (told_birth fields).to → fields.to ≡ padded (told_birth fields).to → fields ≡ fields_of (told_birth fields)
 fields_told fields format digest from_length from to_length to =
     let birth = told_birth fields in
@@ -132,9 +132,9 @@ unfolding birth_part
 birth_told fields are none =
     let at_names = (not (are_names fields), tell 4 0 fields.from_length) ∷ [] in
     let at_window = (nat_lt fields.window 1 || nat_lt 8 fields.window, tell 3 8 fields.window) ∷ at_names in
-    let at_format = (not (fields.format == 1), tell 2 1 fields.format) ∷ at_window in
+    let at_format = (not (fields.format == whole_format), tell 2 whole_format fields.format) ∷ at_window in
     let one = passes (not (bytes_eq fields.digest (sha256 (fields_bytes fields)))) (record { rule = 1; kept = fields.digest; found = sha256 (fields_bytes fields) }) at_format none in
-    let two = passes (not (fields.format == 1)) (tell 2 1 fields.format) at_window one.1 in
+    let two = passes (not (fields.format == whole_format)) (tell 2 whole_format fields.format) at_window one.1 in
     let three = passes (nat_lt fields.window 1 || nat_lt 8 fields.window) (tell 3 8 fields.window) at_names two.1 in
     let four = passes (not (are_names fields)) (tell 4 0 fields.from_length) [] three.1 in
     let window = window_told fields.window three.0 in

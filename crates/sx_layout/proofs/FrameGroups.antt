@@ -9,10 +9,9 @@ use Rattle.sha2.specs.Sha256.{sha256}
 use Rattle.sx_frame.specs.Violation.{Violation, tell}
 use Rattle.sx_frame.specs.declared.table.FrameRow.{FrameRow}
 use Rattle.sx_layout.proofs.Broken.{broken_behind, unbroken}
-use Rattle.sx_layout.proofs.Heads.{same_front}
+use Rattle.sx_layout.proofs.Fronts.{same_front}
 use Rattle.sx_layout.proofs.Tables.{length-table_bytes, rows_again}
-use Rattle.sx_layout.specs.FrameGroup.{AreRows, FrameGroup, IsFrameGroup, frame_group_bytes, group_size, head_part, rows_at, table_bytes}
-use Rattle.sx_layout.specs.Group.{group_limit}
+use Rattle.sx_layout.specs.FrameGroup.{AreRows, FrameGroup, IsFrameGroup, frame_group_bytes, group_limit, group_size, head_part, rows_at, table_bytes}
 use Rattle.sx_layout.specs.Rule.{first_broken}
 use Rattle.sx_layout.specs.Rules.{count_rules, digest_rule, group_violation, head_violation, order_rules, size_rules, table_rules}
 use Rattle.sx_root.proofs.Again.{front_root-again, length-root_bytes, root-one_spelling}

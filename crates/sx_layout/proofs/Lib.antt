@@ -1,10 +1,7 @@
-pub mod Heads
-pub mod Legal
-pub mod Readings
+pub mod Fronts
 pub mod Tables
 pub mod Broken
 pub mod FrameGroups
 pub mod Births
 pub mod BornReadings
 pub mod BornRows
-mod PlainRows

@@ -56,10 +56,14 @@ part_bytes fields = fields_bytes fields ++ fields.digest
 abbrev pub padded : List ℕ → List ℕ
 padded name = name ++ replicate (64 - length name) 0
 
--- the fields of this birth, in the format 1, under the digest
+-- The format of the groups behind the birth part. In this one each group has one frame, which has the whole document.
+abbrev pub whole_format : ℕ
+whole_format = 0
+
+-- the fields of this birth, in this format, under the digest
 abbrev pub undigested : Birth → List ℕ → BirthFields
 undigested birth digest = record {
-  format = 1;
+  format = whole_format;
   window = birth.window;
   from_length = length birth.from;
   from = padded birth.from;
@@ -113,7 +117,7 @@ are_names fields =
 abbrev pub birth_rules : BirthFields → List (Bool × Violation)
 birth_rules fields =
     (not (bytes_eq fields.digest (sha256 (fields_bytes fields))), record { rule = 1; kept = fields.digest; found = sha256 (fields_bytes fields) })
-    ∷ (not (fields.format == 1), tell 2 1 fields.format)
+    ∷ (not (fields.format == whole_format), tell 2 whole_format fields.format)
     ∷ (nat_lt fields.window 1 || nat_lt 8 fields.window, tell 3 8 fields.window)
     ∷ (not (are_names fields), tell 4 0 fields.from_length)
     ∷ []

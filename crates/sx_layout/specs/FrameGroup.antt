@@ -3,7 +3,6 @@ use Rattle.std.specs.Prelude.{ℕ, ◌≡◌, ◌+◌, ◌*◌, ◌^◌, ◌<◌
 use Rattle.std.specs.Int.{to_be_bytes, from_be_bytes, w32}
 use Rattle.sha2.specs.Sha256.{sha256}
 use Rattle.sx_frame.specs.declared.table.FrameRow.{FrameRow}
-use Rattle.sx_layout.specs.Group.{group_limit}
 use Rattle.sx_model.specs.Commit.{first_time}
 use Rattle.sx_root.specs.Root.{IsRoot, root_bytes}
 use Rattle.sx_root.specs.declared.root.RevisionRoot.{RevisionRoot}
@@ -14,6 +13,10 @@ pub record FrameGroup : Type 0 where
   pub table : List FrameRow
   -- the bytes of all frames, one behind another
   pub body : List ℕ
+
+-- a group with the gate behind it has at most so many bytes
+abbrev pub group_limit : ℕ
+group_limit = 268435456
 
 -- the length (4 bytes) and the digest (32)
 abbrev pub row_bytes : FrameRow → List ℕ

@@ -1,6 +1,3 @@
-pub mod Group
-pub mod Stands
-pub mod Damage
 pub mod Rule
 pub mod Birth
 pub mod FrameGroup

@@ -5,8 +5,7 @@ use Rattle.std.specs.Str.{bytes_eq}
 use Rattle.sha2.specs.Sha256.{sha256}
 use Rattle.sx_frame.specs.Violation.{Violation, tell}
 use Rattle.sx_frame.specs.declared.table.FrameRow.{FrameRow}
-use Rattle.sx_layout.specs.FrameGroup.{FrameGroup, IsFrameGroup, frames_after, group_size, rows_at}
-use Rattle.sx_layout.specs.Group.{group_limit}
+use Rattle.sx_layout.specs.FrameGroup.{FrameGroup, IsFrameGroup, frames_after, group_limit, group_size, rows_at}
 use Rattle.sx_layout.specs.Rule.{first_broken}
 use Rattle.sx_model.specs.Edit.{number_limit}
 use Rattle.sx_root.specs.Root.{front_root, mark}

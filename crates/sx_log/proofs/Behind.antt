@@ -45,6 +45,7 @@ holds_then g old now new counts_now a b = record {
   same_read = b.same_read ∙ a.same_read;
   spare = omega (arith, a.spare, b.spare);
   calm = λ calm. b.calm (a.calm calm);
+  no_fault = b.no_fault ∙ a.no_fault;
   never_falls = omega (arith, a.never_falls, b.never_falls);
   no_image_more = λ c left.
       ⊎_elim (λ (before : g.was_image now (g.moment old) c). a.no_image_more c before) (λ (during : g.was_image new (g.moment now) c). a.no_image_more c (counts_now (g.moment old) c a.time.later (b.no_image_more c during)))

@@ -13,8 +13,7 @@ use Rattle.sx_frame.specs.declared.table.FrameRow.{FrameRow}
 use Rattle.sx_layout.proofs.Broken.{broken_behind, broken_there}
 use Rattle.sx_layout.proofs.FrameGroups.{group_parts, rules_of, violation_of_head}
 use Rattle.sx_layout.proofs.Tables.{length-table_bytes, rows_again}
-use Rattle.sx_layout.specs.FrameGroup.{AreRows, FrameGroup, IsRow, frame_group_bytes, group_size, head_part, row_bytes, rows_at, table_bytes}
-use Rattle.sx_layout.specs.Group.{group_limit}
+use Rattle.sx_layout.specs.FrameGroup.{AreRows, FrameGroup, IsRow, frame_group_bytes, group_limit, group_size, head_part, row_bytes, rows_at, table_bytes}
 use Rattle.sx_layout.specs.Rule.{first_broken}
 use Rattle.sx_layout.specs.Rules.{count_rules, digest_rule, group_violation, head_violation, order_rules, size_rules, table_rules}
 use Rattle.sx_log.proofs.Ruled.{none_parts, not_broken, passes, told, told_none, violation_of}

@@ -5,7 +5,7 @@ use Rattle.std.specs.Str.{bytes_eq, is_utf8}
 use Rattle.std.proofs.lemmas.Str.{IsUtf8-from_is_utf8}
 use Rattle.sha2.specs.Sha256.{sha256}
 use Rattle.sx_frame.specs.Violation.{tell}
-use Rattle.sx_layout.specs.Birth.{BirthFields, are_names, birth_rules, fields_bytes, is_name}
+use Rattle.sx_layout.specs.Birth.{BirthFields, are_names, birth_rules, fields_bytes, is_name, whole_format}
 use Rattle.sx_layout.specs.Rule.{first_broken}
 use Rattle.sx_log.proofs.Ruled.{passes}
 
@@ -22,9 +22,9 @@ pub names_kept : (fields : BirthFields) → first_broken (birth_rules fields) �
 names_kept fields none =
     let at_names = (not (are_names fields), tell 4 0 fields.from_length) ∷ [] in
     let at_window = (nat_lt fields.window 1 || nat_lt 8 fields.window, tell 3 8 fields.window) ∷ at_names in
-    let at_format = (not (fields.format == 1), tell 2 1 fields.format) ∷ at_window in
+    let at_format = (not (fields.format == whole_format), tell 2 whole_format fields.format) ∷ at_window in
     let one = passes (not (bytes_eq fields.digest (sha256 (fields_bytes fields)))) (record { rule = 1; kept = fields.digest; found = sha256 (fields_bytes fields) }) at_format none in
-    let two = passes (not (fields.format == 1)) (tell 2 1 fields.format) at_window one.1 in
+    let two = passes (not (fields.format == whole_format)) (tell 2 whole_format fields.format) at_window one.1 in
     let three = passes (nat_lt fields.window 1 || nat_lt 8 fields.window) (tell 3 8 fields.window) at_names two.1 in
     let four = passes (not (are_names fields)) (tell 4 0 fields.from_length) [] three.1 in
     let all = holds_not (are_names fields) four.0 in

@@ -6,7 +6,7 @@ use Rattle.std.specs.Str.{bytes_eq, is_utf8}
 use Rattle.sha2.specs.Sha256.{sha256}
 use Rattle.sx_frame.specs.Violation.{tell}
 use Rattle.sx_layout.proofs.Broken.{broken_here, unbroken}
-use Rattle.sx_layout.specs.Birth.{Birth, BirthFields, are_names, birth_part, birth_rules, fields_bytes, is_name, magic, padded, part_bytes, undigested}
+use Rattle.sx_layout.specs.Birth.{Birth, BirthFields, are_names, birth_part, birth_rules, fields_bytes, is_name, magic, padded, part_bytes, undigested, whole_format}
 use Rattle.sx_layout.specs.Rule.{first_broken}
 
 -- fields read one behind another from 172 bytes are all there is
@@ -39,29 +39,29 @@ pub pieces_told : (f : BirthFields) → (((([] ++ magic) ++ (f.format ∷ f.wind
 pieces_told f = ap (λ (b : List ℕ). magic ++ (f.format ∷ f.window ∷ f.from_length ∷ b)) (append_assoc f.from (f.to_length ∷ []) f.to)
 
 -- the rules 1 to 3 are kept, and rule 4 is left
-first_three : (f : BirthFields) (found : List ℕ) (test : Bool) → found ≡ sha256 (fields_bytes f) → test ≡ not (bytes_eq f.digest found) → test ≡ false → f.format ≡ 1 → 1 ≤ f.window → f.window ≤ 8
+first_three : (f : BirthFields) (found : List ℕ) (test : Bool) → found ≡ sha256 (fields_bytes f) → test ≡ not (bytes_eq f.digest found) → test ≡ false → f.format ≡ whole_format → 1 ≤ f.window → f.window ≤ 8
     → first_broken (birth_rules f) ≡ first_broken ((not (are_names f), tell 4 0 f.from_length) ∷ [])
 first_three f found test is tested holds format least most =
     let digest : not (bytes_eq f.digest (sha256 (fields_bytes f))) ≡ false = ap (λ (d : List ℕ). not (bytes_eq f.digest d)) (sym is) ∙ sym tested ∙ holds in
     let at_names = (not (are_names f), tell 4 0 f.from_length) ∷ [] in
     let at_window = (nat_lt f.window 1 || nat_lt 8 f.window, tell 3 8 f.window) ∷ at_names in
-    let at_format = (not (f.format == 1), tell 2 1 f.format) ∷ at_window in
+    let at_format = (not (f.format == whole_format), tell 2 whole_format f.format) ∷ at_window in
     unbroken (not (bytes_eq f.digest (sha256 (fields_bytes f)))) (record { rule = 1; kept = f.digest; found = sha256 (fields_bytes f) }) at_format digest
-    ∙ unbroken (not (f.format == 1)) (tell 2 1 f.format) at_window (one_format f.format format)
+    ∙ unbroken (not (f.format == whole_format)) (tell 2 whole_format f.format) at_window (one_format f.format format)
     ∙ unbroken (nat_lt f.window 1 || nat_lt 8 f.window) (tell 3 8 f.window) at_names (in_window f.window least most)
   where
-    one_format : (n : ℕ) → n ≡ 1 → not (n == 1) ≡ false
+    one_format : (n : ℕ) → n ≡ whole_format → not (n == whole_format) ≡ false
     one_format n is = grind (arith, nat_tests)
 
     in_window : (n : ℕ) → 1 ≤ n → n ≤ 8 → (nat_lt n 1 || nat_lt 8 n) ≡ false
     in_window n least most = grind (arith, nat_tests)
 
-pub names_broken : (f : BirthFields) (found : List ℕ) (test names : Bool) → found ≡ sha256 (fields_bytes f) → test ≡ not (bytes_eq f.digest found) → test ≡ false → f.format ≡ 1 → 1 ≤ f.window → f.window ≤ 8
+pub names_broken : (f : BirthFields) (found : List ℕ) (test names : Bool) → found ≡ sha256 (fields_bytes f) → test ≡ not (bytes_eq f.digest found) → test ≡ false → f.format ≡ whole_format → 1 ≤ f.window → f.window ≤ 8
     → names ≡ are_names f → names ≡ false → first_broken (birth_rules f) ≡ Some (tell 4 0 f.from_length)
 names_broken f found test names is tested holds format least most told none =
     first_three f found test is tested holds format least most ∙ broken_here (not (are_names f)) (tell 4 0 f.from_length) [] (ap not (sym told ∙ none))
 
-pub none_broken : (f : BirthFields) (found : List ℕ) (test names : Bool) → found ≡ sha256 (fields_bytes f) → test ≡ not (bytes_eq f.digest found) → test ≡ false → f.format ≡ 1 → 1 ≤ f.window → f.window ≤ 8
+pub none_broken : (f : BirthFields) (found : List ℕ) (test names : Bool) → found ≡ sha256 (fields_bytes f) → test ≡ not (bytes_eq f.digest found) → test ≡ false → f.format ≡ whole_format → 1 ≤ f.window → f.window ≤ 8
     → names ≡ are_names f → names ≡ true → first_broken (birth_rules f) ≡ None
 none_broken f found test names is tested holds format least most told all =
     first_three f found test is tested holds format least most ∙ unbroken (not (are_names f)) (tell 4 0 f.from_length) [] (ap not (sym told ∙ all))
@@ -92,10 +92,10 @@ name_put o0 o1 o2 o3 bytes name zeros n m e1 e2 e3 count is zeros_are long =
     ∙ append_assoc (o0 ++ length name ∷ []) name (replicate (64 - length name) 0) ∙ append_assoc o0 (length name ∷ []) (padded name)
 
 -- a birth part that was appended in pieces
-pub part_put : (birth : Birth) (p1 p2 p3 p4 p5 p6 p7 digest : List ℕ) → p1 ≡ [] ++ magic → p2 ≡ p1 ++ 1 ∷ [] → p3 ≡ p2 ++ birth.window ∷ [] → p4 ≡ p3 ++ (length birth.from ∷ padded birth.from)
+pub part_put : (birth : Birth) (p1 p2 p3 p4 p5 p6 p7 digest : List ℕ) → p1 ≡ [] ++ magic → p2 ≡ p1 ++ whole_format ∷ [] → p3 ≡ p2 ++ birth.window ∷ [] → p4 ≡ p3 ++ (length birth.from ∷ padded birth.from)
     → p5 ≡ p4 ++ (length birth.to ∷ padded birth.to) → digest ≡ sha256 p5 → p6 ≡ p5 ++ digest → p7 ≡ p6 ++ 0 ∷ [] → p7 ≡ birth_part birth ++ 0 ∷ []
 unfolding birth_part
 part_put birth p1 p2 p3 p4 p5 p6 p7 digest e1 e2 e3 e4 e5 digested e6 e7 =
-    let first : p4 ≡ magic ++ (1 ∷ birth.window ∷ (length birth.from ∷ padded birth.from)) = e4 ∙ ap (λ (p : List ℕ). p ++ (length birth.from ∷ padded birth.from)) (e3 ∙ ap (λ (p : List ℕ). p ++ birth.window ∷ []) (e2 ∙ ap (λ (p : List ℕ). p ++ 1 ∷ []) e1)) in
+    let first : p4 ≡ magic ++ (whole_format ∷ birth.window ∷ (length birth.from ∷ padded birth.from)) = e4 ∙ ap (λ (p : List ℕ). p ++ (length birth.from ∷ padded birth.from)) (e3 ∙ ap (λ (p : List ℕ). p ++ birth.window ∷ []) (e2 ∙ ap (λ (p : List ℕ). p ++ whole_format ∷ []) e1)) in
     let all : p5 ≡ fields_bytes (undigested birth []) = e5 ∙ ap (λ (p : List ℕ). p ++ (length birth.to ∷ padded birth.to)) first in
     e7 ∙ ap (λ (p : List ℕ). p ++ 0 ∷ []) (e6 ∙ (λ i. all i ++ digested i) ∙ ap (λ (d : List ℕ). fields_bytes (undigested birth []) ++ sha256 d) all)

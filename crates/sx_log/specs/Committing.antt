@@ -81,6 +81,7 @@ pub record OnlyHolds {V Spot End : Type 0} (g : Ghosts V Spot End) (old new : V)
   pub same_read : g.bytes_read new ≡ g.bytes_read old
   pub spare : g.spare old ≤ g.spare new
   pub calm : IsTrue (g.calm old) → IsTrue (g.calm new)
+  pub no_fault : g.faults new ≡ g.faults old
   pub never_falls : g.faults old ≤ g.faults new
   pub no_image_more : IsWithin (g.is_image old) (g.was_image new (g.moment old))
   pub no_image_less : IsWithin (g.is_image new) (g.is_image old)

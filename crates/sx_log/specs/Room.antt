@@ -1,7 +1,6 @@
 -- Whether a log has room for a group more.
 use Rattle.std.specs.Prelude.{ℕ, ◌+◌, ◌||◌, nat_lt, List, length, sum, Result, Ok, Err, if◌then◌else◌}
-use Rattle.sx_layout.specs.FrameGroup.{group_size}
-use Rattle.sx_layout.specs.Group.{group_limit}
+use Rattle.sx_layout.specs.FrameGroup.{group_limit, group_size}
 use Rattle.sx_layout.specs.Rules.{log_limit}
 use Rattle.sx_log.specs.declared.fault.RoomFault.{RoomFault}
 use Rattle.sx_log.specs.declared.fault.RoomFault.TheVariants.{LogFull, CommitTooLarge}

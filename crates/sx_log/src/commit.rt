@@ -1,5 +1,5 @@
 //! A commit in three calls: the group is held, is put behind the closed gate, and then the gate is opened.
-ghost use Rattle.std.specs.Prelude.{ℕ, ◌≡◌, ◌+◌, ◌<◌, ◌≤◌, ◌⊎◌, ◌++◌, [], ◌∷◌, List, Some, IfOk, IfSome, IsTrue, OnErr, OnOk, length, slice_set, take};
+ghost use Rattle.std.specs.Prelude.{ℕ, ◌≡◌, ◌+◌, ◌<◌, ◌≤◌, ◌⊎◌, ◌++◌, [], ◌∷◌, List, Some, IfOk, IfSome, IsSome, IsTrue, OnErr, OnOk, length, slice_set, take};
 ghost use Rattle.std.specs.Arc.{arc_value};
 ghost use Rattle.std.specs.Option.{option_map};
 ghost use Rattle.sx_layout.specs.Born.{HasLog};
@@ -71,7 +71,9 @@ pub fn stage<V: Volume>(log: &mut Log, volume: &mut V) -> Result<(), Failed>
     ensures same { SameLog log.old log.new }
     ensures calm { OnOk result (IsTrue (V.calm volume.new)) }
     ensures spare { V.spare volume.old ≤ V.spare volume.new + 3 }
+    ensures told { IsSome (V.bytes volume.old) → IsSome (V.bytes volume.new) }
     ensures cause { OnErr result (Rose (V.faults volume.old) (V.faults volume.new)) }
+    ensures no_fault { OnOk result (V.faults volume.new ≡ V.faults volume.old) }
     ensures on { GoesOn V.Volume volume.old volume.new }
 {
     put_behind(volume, log.end)?;
@@ -107,7 +109,9 @@ pub fn seal_group<V: Volume>(log: &mut Log, volume: &mut V) -> Result<(), Failed
     ensures same { OnErr result (SameLog log.old log.new) }
     ensures calm { OnOk result (IsTrue (V.calm volume.new)) }
     ensures birth { log.new.birth ≡ log.old.birth }
+    ensures told { IsSome (V.bytes volume.old) → IsSome (V.bytes volume.new) }
     ensures cause { OnErr result (Rose (V.faults volume.old) (V.faults volume.new)) }
+    ensures no_fault { OnOk result (V.faults volume.new ≡ V.faults volume.old) }
     ensures on { GoesOn V.Volume volume.old volume.new }
 {
     open_gate(volume, log.end)?;
@@ -162,7 +166,9 @@ fn put_behind<V: Volume>(volume: &mut V, gate: u64) -> Result<(), Failed>
     ensures synced { OnOk result (IfSome (V.bytes volume.old) (λ _. Syncs (V.moment volume.old) (V.moment volume.new) (V.synced volume.old) (V.synced volume.new))) }
     ensures no_sync { OnErr result (NoSync (V.synced volume.old) (V.synced volume.new)) }
     ensures images { Follows (IsBehind gate) (V.is_image volume.old) (V.was_image volume.new (V.moment volume.old)) }
+    ensures told { IsSome (V.bytes volume.old) → IsSome (V.bytes volume.new) }
     ensures cause { OnErr result (Rose (V.faults volume.old) (V.faults volume.new)) }
+    ensures no_fault { OnOk result (V.faults volume.new ≡ V.faults volume.old) }
     ensures on { GoesOn V.Volume volume.old volume.new }
 {
     cut_behind(volume, gate)?;
@@ -180,7 +186,9 @@ fn cut_behind<V: Volume>(volume: &mut V, gate: u64) -> Result<(), Failed>
     ensures spare { V.spare volume.old ≤ V.spare volume.new + 1 }
     ensures no_sync { NoSync (V.synced volume.old) (V.synced volume.new) }
     ensures images { Follows (IsBehind gate) (V.is_image volume.old) (V.was_image volume.new (V.moment volume.old)) }
+    ensures told { IsSome (V.bytes volume.old) → IsSome (V.bytes volume.new) }
     ensures cause { OnErr result (Rose (V.faults volume.old) (V.faults volume.new)) }
+    ensures no_fault { OnOk result (V.faults volume.new ≡ V.faults volume.old) }
     ensures on { GoesOn V.Volume volume.old volume.new }
 {
     let len = volume.len();
@@ -201,7 +209,9 @@ fn open_gate<V: Volume>(volume: &mut V, gate: u64) -> Result<(), Failed>
     ensures synced { OnOk result (IfSome (V.bytes volume.old) (λ _. Syncs (V.moment volume.old) (V.moment volume.new) (V.synced volume.old) (V.synced volume.new))) }
     ensures no_sync { OnErr result (NoSync (V.synced volume.old) (V.synced volume.new)) }
     ensures images { Follows (Puts gate) (V.is_image volume.old) (V.was_image volume.new (V.moment volume.old)) }
+    ensures told { IsSome (V.bytes volume.old) → IsSome (V.bytes volume.new) }
     ensures cause { OnErr result (Rose (V.faults volume.old) (V.faults volume.new)) }
+    ensures no_fault { OnOk result (V.faults volume.new ≡ V.faults volume.old) }
     ensures on { GoesOn V.Volume volume.old volume.new }
 {
     volume.put_byte(gate, OPEN)?;

@@ -249,12 +249,14 @@ pub(crate) fn begin<V: Volume>(alloc: Global, volume: &mut V, calls: u32) -> Res
     ensures same_held { V.held volume.new ≡ V.held volume.old }
     ensures same_read { V.bytes_read volume.new ≡ V.bytes_read volume.old }
     ensures nothing_done { IsErrOf result LogFault.OutOfMemory → V.bytes volume.new ≡ V.bytes volume.old }
+    ensures told { IsSome (V.bytes volume.old) → IsSome (V.bytes volume.new) }
     ensures spare { OnOk result (calls ≤ V.spare volume.new + 1) }
     ensures fault { IfErr result IsOther }
     ensures synced { OnOk result (IfSome (V.bytes volume.old) (λ _. Syncs (V.moment volume.old) (V.moment volume.new) (V.synced volume.old) (V.synced volume.new))) }
     ensures no_sync { OnErr result (NoSync (V.synced volume.old) (V.synced volume.new)) }
     ensures images { IsWithin (V.is_image volume.old) (V.was_image volume.new (V.moment volume.old)) }
     ensures cause { IsErrOf result LogFault.Failed → Rose (V.faults volume.old) (V.faults volume.new) }
+    ensures no_fault { (IsErrOf result LogFault.Failed → ⊥) → V.faults volume.new ≡ V.faults volume.old }
     ensures on { GoesOn V.Volume volume.old volume.new }
 {
     volume.ready(alloc, calls)?;

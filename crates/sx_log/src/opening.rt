@@ -1,7 +1,7 @@
 // A volume is opened: its birth part is read, and then of each group behind an open gate the head, the table and their digest, and no
 // frame. Nothing is written.
 ghost use Rattle.std.specs.Int.{from_be_bytes, w32};
-ghost use Rattle.std.specs.Prelude.{◌≡◌, ◌≢◌, ◌+◌, ◌*◌, ◌-◌, ◌^◌, ◌<◌, ◌≤◌, ◌++◌, ◌∷◌, ◌⊎◌, [], List, ℕ, None, true, false, length, take, drop, IfSome, IfNone, IfOk, IfErr, OnOk, OnErr, IsErrOf, IsTrue, if◌then◌else◌};
+ghost use Rattle.std.specs.Prelude.{◌≡◌, ◌≢◌, ◌+◌, ◌*◌, ◌-◌, ◌^◌, ◌<◌, ◌≤◌, ◌++◌, ◌∷◌, ◌⊎◌, [], List, ℕ, None, true, false, length, take, drop, IfSome, IfNone, IfOk, IfErr, OnOk, OnErr, IsErrOf, IsSome, IsTrue, if◌then◌else◌};
 ghost use Rattle.sx_frame.specs.Violation.{damage_at, tell};
 ghost use Rattle.sx_layout.specs.Birth.{IsBirth, birth_part, birth_rules, is_name, told_birth};
 ghost use Rattle.sx_layout.specs.Born.{Reading, Reads};
@@ -72,6 +72,7 @@ pub fn open<V: Volume>(alloc: Global, volume: &mut V) -> Result<Log, LogFault>
     ensures settled { OnOk result (IsSettled V.Volume volume.new) }
     ensures same_bytes { OnOk result (V.bytes volume.new ≡ V.bytes volume.old) }
     ensures nothing_done { IfErr result (λ fault. fault ≢ LogFault.Failed → V.bytes volume.new ≡ V.bytes volume.old) }
+    ensures told { IsSome (V.bytes volume.old) → IsSome (V.bytes volume.new) }
     ensures same_size { V.size volume.new ≡ V.size volume.old }
     ensures same_held { V.held volume.new ≡ V.held volume.old }
     ensures synced { OnOk result (IfSome (V.bytes volume.old) (λ image. IsSynced V.Volume image volume.old volume.new)) }
@@ -79,6 +80,7 @@ pub fn open<V: Volume>(alloc: Global, volume: &mut V) -> Result<Log, LogFault>
     ensures counted { IfOk result (λ log. V.bytes_read volume.new ≤ V.bytes_read volume.old + opened_size log) }
     ensures counted_err { OnErr result (IsCounted (V.bytes volume.old) (V.size volume.old) (V.bytes_read volume.new - V.bytes_read volume.old)) }
     ensures cause { IsErrOf result LogFault.Failed → Rose (V.faults volume.old) (V.faults volume.new) }
+    ensures no_fault { (IsErrOf result LogFault.Failed → ⊥) → V.faults volume.new ≡ V.faults volume.old }
     ensures on { GoesOn V.Volume volume.old volume.new }
 {
     begin(alloc, volume, 1)?;
@@ -92,6 +94,7 @@ fn read_log<V: Volume>(alloc: Global, volume: &mut V) -> Result<Log, LogFault>
     ensures counted { IfOk result (λ log. V.bytes_read volume.new ≤ V.bytes_read volume.old + opened_size log) }
     ensures counted_err { OnErr result (IsCounted (V.bytes volume.old) (V.size volume.old) (V.bytes_read volume.new - V.bytes_read volume.old)) }
     ensures cause { IsErrOf result LogFault.Failed → Rose (V.faults volume.old) (V.faults volume.new) }
+    ensures no_fault { (IsErrOf result LogFault.Failed → ⊥) → V.faults volume.new ≡ V.faults volume.old }
     ensures kept { OnlyReads V.Volume volume.old volume.new }
 {
     match find_birth(volume)? {
@@ -142,6 +145,7 @@ fn read_groups<V: Volume>(alloc: Global, volume: &mut V, birth: Birth) -> Result
     ensures counted { IfOk result (λ log. V.bytes_read volume.new ≤ V.bytes_read volume.old + (1 + rows_size (listed log.groups))) }
     ensures counted_err { OnErr result (IsCounted (V.bytes volume.old) (V.size volume.old) (173 + (V.bytes_read volume.new - V.bytes_read volume.old))) }
     ensures cause { IsErrOf result LogFault.Failed → Rose (V.faults volume.old) (V.faults volume.new) }
+    ensures no_fault { (IsErrOf result LogFault.Failed → ⊥) → V.faults volume.new ≡ V.faults volume.old }
     ensures kept { OnlyReads V.Volume volume.old volume.new }
 {
     let len = volume.len();
@@ -175,6 +179,7 @@ fn read_next<V: Volume>(
     ensures counted_err { OnErr result (IsCounted (V.bytes volume.old) (V.size volume.old)
         (173 + (rows_size (listed log.old.groups) + (V.bytes_read volume.new - V.bytes_read volume.old)))) }
     ensures cause { IsErrOf result LogFault.Failed → Rose (V.faults volume.old) (V.faults volume.new) }
+    ensures no_fault { (IsErrOf result LogFault.Failed → ⊥) → V.faults volume.new ≡ V.faults volume.old }
     ensures kept { OnlyReads V.Volume volume.old volume.new }
 {
     if byte_at(volume, log.end)? != OPEN {
@@ -214,6 +219,7 @@ fn read_group<V: Volume>(
     ensures counted { IfOk result (λ row. V.bytes_read volume.new ≤ V.bytes_read volume.old + (80 + 36 * row.root.frames)) }
     ensures counted_err { OnErr result (IsPartAt (V.bytes volume.old) place left (V.bytes_read volume.new - V.bytes_read volume.old)) }
     ensures cause { IsErrOf result LogFault.Failed → Rose (V.faults volume.old) (V.faults volume.new) }
+    ensures no_fault { (IsErrOf result LogFault.Failed → ⊥) → V.faults volume.new ≡ V.faults volume.old }
     ensures kept { OnlyReads V.Volume volume.old volume.new }
 {
     if left < HEAD_BYTES as u64 {
@@ -236,6 +242,7 @@ fn read_head<V: Volume>(volume: &mut V, place: u64) -> Result<[u8; 48], Failed>
     ensures long { IfOk result (λ head. length head ≡ 48) }
     ensures counted { V.bytes_read volume.new ≤ V.bytes_read volume.old + 48 }
     ensures cause { OnErr result (Rose (V.faults volume.old) (V.faults volume.new)) }
+    ensures no_fault { OnOk result (V.faults volume.new ≡ V.faults volume.old) }
     ensures kept { OnlyReads V.Volume volume.old volume.new }
 {
     let mut room = [0; HEAD_BYTES];
@@ -270,6 +277,7 @@ fn read_rest<V: Volume>(
     ensures tells { IfErr result (TellsFault (V.bytes volume.old) place (V.size volume.old - place) last.now) }
     ensures counted { V.bytes_read volume.new ≤ V.bytes_read volume.old + (32 + 36 * head.now.root.frames) }
     ensures cause { IsErrOf result LogFault.Failed → Rose (V.faults volume.old) (V.faults volume.new) }
+    ensures no_fault { (IsErrOf result LogFault.Failed → ⊥) → V.faults volume.new ≡ V.faults volume.old }
     ensures kept { OnlyReads V.Volume volume.old volume.new }
 {
     let root = head.root;
@@ -294,6 +302,7 @@ fn read_behind<V: Volume>(
     ensures other { IfErr result IsOther }
     ensures counted { V.bytes_read volume.new ≤ V.bytes_read volume.old + (32 + 36 * frames) }
     ensures cause { IsErrOf result LogFault.Failed → Rose (V.faults volume.old) (V.faults volume.new) }
+    ensures no_fault { (IsErrOf result LogFault.Failed → ⊥) → V.faults volume.new ≡ V.faults volume.old }
     ensures kept { OnlyReads V.Volume volume.old volume.new }
 {
     let count = ROW_BYTES * frames as usize + DIGEST_BYTES;

@@ -1,5 +1,5 @@
 // The birth part of a volume is read, and tells whether it is born. Nothing is written.
-ghost use Rattle.std.specs.Prelude.{◌≡◌, ◌+◌, ◌≤◌, ◌<◌, ◌++◌, ◌∷◌, ◌↔◌, ◌≢◌, List, Some, true, length, take, drop, IfSome, IfNone, IfOk, IfErr, OnErr, IsSome, IsTrue, IsErrOf, slice_get, ℕ};
+ghost use Rattle.std.specs.Prelude.{◌≡◌, ◌+◌, ◌≤◌, ◌<◌, ◌++◌, ◌∷◌, ◌↔◌, ◌≢◌, List, Some, true, length, take, drop, IfSome, IfNone, IfOk, IfErr, OnErr, OnOk, IsSome, IsTrue, IsErrOf, slice_get, ℕ};
 ghost use Rattle.std.specs.Option.{option_map};
 ghost use Rattle.std.specs.Str.{is_utf8};
 ghost use Rattle.sha2.specs.Sha256.{sha256};
@@ -19,8 +19,8 @@ use sx_volume::Volume;
 /// The first bytes of a birth part.
 pub(crate) const MAGIC: [u8; 8] = *b"SXSNAP01";
 
-/// The format that this program writes and reads.
-pub(crate) const FORMAT: u8 = 1;
+/// The format that this program writes and reads: one frame a group, with a whole document.
+pub(crate) const FORMAT: u8 = 0;
 
 /// The byte of a gate that is not open.
 pub(crate) const CLOSED: u8 = 0;
@@ -68,6 +68,7 @@ pub(crate) fn byte_at<V: Volume>(volume: &mut V, place: u64) -> Result<u8, Faile
     ensures byte { IfOk result (λ byte. IfSome (V.bytes volume.old) (λ all. slice_get all place ≡ Some byte)) }
     ensures counted { V.bytes_read volume.new ≤ V.bytes_read volume.old + 1 }
     ensures cause { OnErr result (Rose (V.faults volume.old) (V.faults volume.new)) }
+    ensures no_fault { OnOk result (V.faults volume.new ≡ V.faults volume.old) }
     ensures kept { OnlyReads V.Volume volume.old volume.new }
 {
     let mut room = [0];
@@ -193,6 +194,7 @@ pub(crate) fn find_birth<V: Volume>(volume: &mut V) -> Result<Finding, Failed>
     ensures counted { V.bytes_read volume.new ≤ V.bytes_read volume.old + 174 }
     ensures counted_born { IfOk result (λ finding. IsBornFinding finding → V.bytes_read volume.new ≤ V.bytes_read volume.old + 173) }
     ensures cause { OnErr result (Rose (V.faults volume.old) (V.faults volume.new)) }
+    ensures no_fault { OnOk result (V.faults volume.new ≡ V.faults volume.old) }
     ensures kept { OnlyReads V.Volume volume.old volume.new }
 {
     let len = volume.len();
@@ -218,6 +220,7 @@ fn find_whole<V: Volume>(volume: &mut V, len: u64) -> Result<Finding, Failed>
     ensures counted { V.bytes_read volume.new ≤ V.bytes_read volume.old + 174 }
     ensures counted_born { IfOk result (λ finding. IsBornFinding finding → V.bytes_read volume.new ≤ V.bytes_read volume.old + 173) }
     ensures cause { OnErr result (Rose (V.faults volume.old) (V.faults volume.new)) }
+    ensures no_fault { OnOk result (V.faults volume.new ≡ V.faults volume.old) }
     ensures kept { OnlyReads V.Volume volume.old volume.new }
 {
     let Front { first, given } = read_front(volume)?;
@@ -243,6 +246,7 @@ fn read_front<V: Volume>(volume: &mut V) -> Result<Front, Failed>
     ensures fields { IfOk result (λ front. IfSome front.given (λ given. AreFields (fields_in given))) }
     ensures counted { V.bytes_read volume.new ≤ V.bytes_read volume.old + 173 }
     ensures cause { OnErr result (Rose (V.faults volume.old) (V.faults volume.new)) }
+    ensures no_fault { OnOk result (V.faults volume.new ≡ V.faults volume.old) }
     ensures kept { OnlyReads V.Volume volume.old volume.new }
 {
     let mut room = [0; BIRTH_BYTES];
@@ -261,6 +265,7 @@ fn is_whole<V: Volume>(volume: &mut V, len: u64, given: &GivenFields) -> Result<
     ensures whole { IfOk result (λ whole. IfSome (V.bytes volume.old) (λ all. IsTrue whole ↔ IsWhole all (fields_in given.now))) }
     ensures counted { V.bytes_read volume.new ≤ V.bytes_read volume.old + 1 }
     ensures cause { OnErr result (Rose (V.faults volume.old) (V.faults volume.new)) }
+    ensures no_fault { OnOk result (V.faults volume.new ≡ V.faults volume.old) }
     ensures kept { OnlyReads V.Volume volume.old volume.new }
 {
     let gate = byte_at(volume, BORN_BYTES - 1)?;

@@ -190,14 +190,14 @@ fn damaged_birth_parts(rt: HostRuntime) -> Result<(), Fail> {
             },
             None,
         ),
-        (Part { format, ..DEFAULT }, told(1, 2, 1, 2)),
+        (Part { format, ..DEFAULT }, told(1, 2, 0, 2)),
         (
             Part {
-                format: 0,
+                format: 1,
                 window,
                 ..DEFAULT
             },
-            told(1, 2, 1, 0),
+            told(1, 2, 0, 1),
         ),
         (
             Part {

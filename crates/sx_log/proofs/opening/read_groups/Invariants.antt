@@ -10,6 +10,7 @@ invariant-loop-log g l = record {
   begins : Begins (g.V.Volume.bytes l.fn.volume) (g.V.Volume.size l.fn.volume) l.log;
   counted : g.V.Volume.bytes_read l.volume ≤ g.V.Volume.bytes_read l.fn.volume + rows_size (listed l.log.groups);
   kept : OnlyReads g.V.Volume l.fn.volume l.volume;
+  no_fault : g.V.Volume.faults l.volume ≡ g.V.Volume.faults l.fn.volume;
 }
 
 abbrev pub decreases-loop-log : goal.decreases-loop-log

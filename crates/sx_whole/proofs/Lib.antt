@@ -1,0 +1,7 @@
+mod StandRows
+pub mod Lists
+pub mod NodesRead
+pub mod PathsRead
+pub mod OneBody
+pub mod Written
+mod Rows

@@ -1,0 +1,4 @@
+pub mod Body
+pub mod Broken
+pub mod Written
+pub mod Stands
