@@ -1,0 +1,4 @@
+pub mod Keeping
+pub mod Documents
+pub mod Placing
+pub mod Checking
