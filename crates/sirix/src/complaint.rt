@@ -24,6 +24,14 @@ impl fmt::Display for Complaint {
                 "sirix: damaged at {}, rule {}",
                 damage.place, damage.rule
             ),
+            Status::NotOurs { first } => {
+                write!(f, "sirix: not a volume of this program, first byte {first}")
+            }
+            Status::Unborn => f.write_str("sirix: the volume is not born"),
+            Status::Born => f.write_str("sirix: the volume is born already"),
+            Status::Missing { asked, seen } => {
+                write!(f, "sirix: no revision {asked}, there are {seen}")
+            }
             Status::OutOfMemory => f.write_str("sirix: out of memory"),
         }
     }
@@ -52,6 +60,16 @@ mod tests {
             (Status::WriteFault, "sirix: writing failed"),
             (Status::VolumeFault, "sirix: the volume failed"),
             (Status::Damaged(damage), "sirix: damaged at 1, rule 6"),
+            (
+                Status::NotOurs { first: 7 },
+                "sirix: not a volume of this program, first byte 7",
+            ),
+            (Status::Unborn, "sirix: the volume is not born"),
+            (Status::Born, "sirix: the volume is born already"),
+            (
+                Status::Missing { asked: 3, seen: 2 },
+                "sirix: no revision 3, there are 2",
+            ),
             (Status::OutOfMemory, "sirix: out of memory"),
         ];
         for (status, line) in lines {

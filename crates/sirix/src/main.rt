@@ -1,5 +1,6 @@
-//! `sirix live FILE` runs the script that standard input gives over the volume in the file, and writes the replies
-//! on standard output. It ends with the status of the run, and says on standard error why where that is not 0.
+//! `sirix live FILE` runs the script that standard input gives over the volume in the file, and writes the replies on standard
+//! output. `sirix create` makes a volume, `sirix show` writes the text of a revision, and `sirix check` reads all frames. Each ends
+//! with the status of its call, and says on standard error why where that is not 0.
 #![tactic(auto)]
 
 ghost use Rattle.std.specs.Prelude.{◌≡◌};
@@ -9,7 +10,6 @@ ghost use Rattle.sx_shell.specs.Code.{code_of};
 mod clock;
 mod complaint;
 mod live;
-mod words;
 
 use crate::complaint::Complaint;
 use crate::live::answer;

@@ -19,21 +19,24 @@ pub struct Opened {
     pub ends: Vec<FileEnd>,
 }
 
-/// Opens the file for reading and writing, with so many ends, and makes it where there is none. It waits for nobody.
-/// Errors: `WouldBlock` where the file is open elsewhere, `InvalidInput` where it is no file of bytes but a device or a
-/// pipe, `OutOfMemory` where memory runs out, and any other that the system answers.
+/// Opens the file for reading and writing, with so many ends. Where there is none it is made, if `make` is set. It waits
+/// for nobody.
+/// Errors: `NotFound` where there is no file and none is to be made, `WouldBlock` where the file is open elsewhere,
+/// `InvalidInput` where it is no file of bytes but a device or a pipe, `OutOfMemory` where memory runs out, and any other
+/// that the system answers.
 pub fn open<R: Files<File = fs::File>>(
     rt: &R,
     alloc: Global,
     path: &str,
     ends: usize,
+    make: bool,
 ) -> io::Result<Opened>
     ensures { IfOk result (λ opened. vec_len opened.ends ≡ ends) }
 {
     let file = OpenOptions::new()
         .read(true)
         .write(true)
-        .create(true)
+        .create(make)
         .open(rt, path)?;
     if !file.metadata()?.is_file() {
         return Err(io::Error::from(ErrorKind::InvalidInput));

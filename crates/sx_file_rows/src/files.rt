@@ -9,7 +9,7 @@ use std::sync::Wait;
 use std::test::Fail;
 use sx_file::{FileEnd, FileVolume, Opened, StdFile, open};
 use sx_outside::{MemSink, MemSource, OpenGate, StillClock};
-use sx_shell::{Status, run_live};
+use sx_shell::{Status, run_live, run_still};
 
 /// The file has to have these bytes.
 pub(crate) fn has<R: Abort + Alloc + Files>(rt: &R, path: &str, want: &[u8]) -> Result<(), Fail> {
@@ -25,7 +25,7 @@ pub(crate) fn opened<R: Files<File = fs::File>>(
     path: &str,
     ends: usize,
 ) -> Result<(FileVolume<StdFile>, Vec<FileEnd>), Fail> {
-    let Opened { volume, ends } = open(rt, alloc, path, ends)?;
+    let Opened { volume, ends } = open(rt, alloc, path, ends, false)?;
     Ok((volume, ends))
 }
 
@@ -36,7 +36,9 @@ pub(crate) fn is_refused<R: Abort + Files<File = fs::File>>(
     path: &str,
     kind: ErrorKind,
 ) {
-    let why = open(rt, alloc, path, 1).err().map(|error| error.kind());
+    let why = open(rt, alloc, path, 1, false)
+        .err()
+        .map(|error| error.kind());
     assert_eq!(rt; why, Some(kind), "{path}");
 }
 
@@ -57,6 +59,28 @@ pub(crate) fn replies<R: Abort + Files<File = fs::File> + Wait>(
     assert_eq!(rt; ends.len(), 32);
     let output = run(rt, alloc, &mut volume, &mut ends, script)?;
     assert_eq!(rt; output.as_slice(), want);
+    Ok(())
+}
+
+/// These words over the file, which run no script, have to end well and to write this.
+pub(crate) fn writes<R: Abort + Files<File = fs::File>>(
+    rt: &R,
+    alloc: Global,
+    path: &str,
+    words: &[&str],
+    want: &str,
+) -> Result<(), Fail> {
+    let (mut volume, mut ends) = opened(rt, alloc, path, 1)?;
+    let mut list = Vec::new(alloc);
+    for word in words {
+        list.push(String::from_str(alloc, word)?)?;
+    }
+    let mut sink = MemSink::new(alloc, 1000, Vec::new(alloc))?;
+    for end in ends.iter_mut() {
+        let status = run_still(alloc, &list, &mut volume, end, &mut sink);
+        assert_eq!(rt; status, Status::Done);
+    }
+    assert_eq!(rt; sink.bytes(), want.as_bytes());
     Ok(())
 }
 

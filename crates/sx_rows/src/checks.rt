@@ -1,4 +1,5 @@
 use crate::run::{Failing, NONE, Ran, run};
+use crate::volumes::NEWBORN;
 use std::alloc::Global;
 use std::process::Abort;
 use std::sync::Wait;
@@ -6,7 +7,7 @@ use std::test::Fail;
 use sx_outside::StillClock;
 use sx_shell::Status;
 
-/// Over an empty volume, with a clock that stands at 1000, each script has these replies, one byte a call and in one
+/// Over a newborn volume, with a clock that stands at 1000, each script has these replies, one byte a call and in one
 /// piece.
 pub(crate) fn replies<R: Abort + Wait>(
     rt: &R,
@@ -15,7 +16,7 @@ pub(crate) fn replies<R: Abort + Wait>(
 ) -> Result<(), Fail> {
     for (script, want) in rows {
         for most in [1, script.len()] {
-            opens(rt, alloc, b"", script, most, want)?;
+            opens(rt, alloc, NEWBORN, script, most, want)?;
         }
     }
     Ok(())
@@ -63,7 +64,7 @@ pub(crate) fn ends<R: Abort>(
     Ok(())
 }
 
-// The bytes as a text that a failed test shows.
-fn text(alloc: Global, bytes: &[u8]) -> Result<String, Fail> {
+/// The bytes as a text that a failed test shows.
+pub(crate) fn text(alloc: Global, bytes: &[u8]) -> Result<String, Fail> {
     Ok(String::from_utf8(bytes.to_vec(alloc)?)?)
 }

@@ -1,5 +1,6 @@
 use crate::checks::{ends, opens, still};
-use crate::faults::volume;
+use crate::faults::{calls_of_opening, volume};
+use crate::volumes::NEWBORN;
 use std::alloc::Global;
 use std::process::Abort;
 use std::sync::Wait;
@@ -46,35 +47,50 @@ const AT_2: &[u8] = b"ok 1\nok 1 1000\nok 3\nrefused Failed 1\n";
 
 const AT_2_GATE: &[u8] = b"ok 1\nok 1 1000\nok 3\nrefused Failed 2\n";
 
-// The volume's calls are a sync, the append of the gate and a sync, and for each commit an append, a sync, the gate's byte
-// and a sync. Over five bytes they are a sync and a read, and the first commit begins with a cut. Each call fails in turn.
-// A crash then leaves the commits that were acknowledged, and one more only where the gate's byte is 1 and its sync failed.
+// The calls of a commit are an append, a sync, the gate's byte and a sync, behind a cut where something stands behind the
+// gate. Each fails in turn. A crash then leaves the commits that were acknowledged, and one more only where the gate's byte
+// is 1 and its sync failed.
 #[test]
 fn a_crash_leaves_the_commits_that_were_acknowledged(rt: HostRuntime) -> Result<(), Fail> {
     let alloc = rt.alloc();
-    // What the volume is at first, the call that fails, the least length that a crash leaves, the replies, and what is
-    // seen of an image where the gate's byte is not 1, and where it is.
-    for (start, call, kept, said, closed, open) in [
-        (b"".as_slice(), 1, 0, b"".as_slice(), NOTHING, NOTHING),
-        (b"", 2, 0, b"", NOTHING, NOTHING),
-        (b"", 3, 0, b"", NOTHING, NOTHING),
-        (b"", 4, 1, AT_1, NOTHING, NOTHING),
-        (b"", 5, 1, AT_1, NOTHING, NOTHING),
-        (b"", 6, 21, AT_1_GATE, NOTHING, NOTHING),
-        (b"", 7, 21, AT_1_GATE, NOTHING, FIRST),
-        (b"", 8, 21, AT_2, FIRST, FIRST),
-        (b"", 9, 21, AT_2, FIRST, FIRST),
-        (b"", 10, 45, AT_2_GATE, FIRST, FIRST),
-        (b"", 11, 45, AT_2_GATE, FIRST, BOTH),
-        (b"hello", 3, 5, AT_1, NOTHING, NOTHING),
-        (b"hello", 5, 1, AT_1, NOTHING, NOTHING),
-        (b"hello", 7, 21, AT_1_GATE, NOTHING, FIRST),
+    let before = calls_of_opening(&rt, alloc)?;
+    let mut junk = NEWBORN.to_vec(alloc)?;
+    junk.extend_from_slice(b"hello")?;
+    // The call behind those of the opening that fails, the least length that a crash leaves, the replies, and what is seen of
+    // an image where the gate's byte is not 1, and where it is.
+    for (call, kept, said, closed, open) in [
+        (1, 174, AT_1, NOTHING, NOTHING),
+        (2, 174, AT_1, NOTHING, NOTHING),
+        (3, 502, AT_1_GATE, NOTHING, NOTHING),
+        (4, 502, AT_1_GATE, NOTHING, FIRST),
+        (5, 502, AT_2, FIRST, FIRST),
+        (6, 502, AT_2, FIRST, FIRST),
+        (7, 902, AT_2_GATE, FIRST, FIRST),
+        (8, 902, AT_2_GATE, FIRST, BOTH),
     ] {
-        let ran = still(&rt, alloc, start, TWO, 9, volume(&[call]))?;
+        let failing = [before.saturating_add(call)];
+        let ran = still(&rt, alloc, NEWBORN, TWO, 9, volume(&failing))?;
         ends(&rt, alloc, &ran, Status::VolumeFault, said)?;
         leaves(&rt, alloc, &ran.volume, kept, closed, open)?;
     }
-    let ran = still(&rt, alloc, b"", TWO, 9, volume(&[12]))?;
+    for (call, kept, said, open) in [
+        (1, 179, AT_1, NOTHING),
+        (3, 174, AT_1, NOTHING),
+        (5, 502, AT_1_GATE, FIRST),
+    ] {
+        let failing = [before.saturating_add(call)];
+        let ran = still(&rt, alloc, &junk, TWO, 9, volume(&failing))?;
+        ends(&rt, alloc, &ran, Status::VolumeFault, said)?;
+        leaves(&rt, alloc, &ran.volume, kept, NOTHING, open)?;
+    }
+    let ran = still(
+        &rt,
+        alloc,
+        NEWBORN,
+        TWO,
+        9,
+        volume(&[before.saturating_add(9)]),
+    )?;
     assert_eq!(rt; ran.status, Status::Done);
     opens(&rt, alloc, &ran.volume.image(alloc, b"", 0)?, LOOK, 9, BOTH)
 }

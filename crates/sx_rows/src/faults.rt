@@ -1,10 +1,10 @@
-use crate::checks::{ends, still};
-use crate::run::{Failing, NONE, run_words};
+use crate::checks::{ends, opens, still};
+use crate::run::{Failing, NONE};
+use crate::volumes::{NEWBORN, THREE, three};
 use std::alloc::Global;
 use std::process::Abort;
 use std::sync::Wait;
 use std::test::Fail;
-use sx_outside::StillClock;
 use sx_shell::Status;
 
 /// Such calls of the volume fail, and no other.
@@ -13,6 +13,20 @@ pub(crate) fn volume(calls: &[u64]) -> Failing<'_> {
         volume: calls,
         ..NONE
     }
+}
+
+/// How many calls of a newborn volume the opening makes: those behind which nothing was said where they failed.
+pub(crate) fn calls_of_opening<R: Abort + Wait>(rt: &R, alloc: Global) -> Result<u64, Fail> {
+    let mut calls = 0;
+    for call in 1..20 {
+        let ran = still(rt, alloc, NEWBORN, b"load 1\ncommit", 9, volume(&[call]))?;
+        assert_eq!(rt; ran.status, Status::VolumeFault);
+        if !ran.output.is_empty() {
+            break;
+        }
+        calls = call;
+    }
+    Ok(calls)
 }
 
 const FIRST: &[u8] = b"load [7]\ncommit\nopen 1\ntext 0\n";
@@ -33,7 +47,7 @@ fn faults_end_a_run_by_their_status(rt: HostRuntime) -> Result<(), Fail> {
             source: &[call],
             ..NONE
         };
-        let ran = still(&rt, alloc, b"", FIRST, 5, failing)?;
+        let ran = still(&rt, alloc, NEWBORN, FIRST, 5, failing)?;
         ends(&rt, alloc, &ran, Status::ReadFault, said)?;
     }
     for (script, call, said) in [
@@ -44,7 +58,7 @@ fn faults_end_a_run_by_their_status(rt: HostRuntime) -> Result<(), Fail> {
             sink: &[call],
             ..NONE
         };
-        let ran = still(&rt, alloc, b"", script, 5, failing)?;
+        let ran = still(&rt, alloc, NEWBORN, script, 5, failing)?;
         ends(&rt, alloc, &ran, Status::WriteFault, said)?;
     }
     Ok(())
@@ -54,26 +68,16 @@ fn faults_end_a_run_by_their_status(rt: HostRuntime) -> Result<(), Fail> {
 #[test]
 fn a_source_that_fails_at_once_leaves_the_volume(rt: HostRuntime) -> Result<(), Fail> {
     let alloc = rt.alloc();
-    let start = b"\x01\0\0\0\0\0\0\x03\xe8\0\0\0\x03\0\0\0\x03[7]\0";
+    let start = three(alloc)?;
     let failing = Failing {
         source: &[1],
         ..NONE
     };
-    let ran = still(&rt, alloc, start, FIRST, 5, failing)?;
+    let ran = still(&rt, alloc, &start, FIRST, 5, failing)?;
     ends(&rt, alloc, &ran, Status::ReadFault, b"")?;
-    assert_eq!(rt; ran.volume.as_slice(), start.as_slice());
-    Ok(())
-}
-
-// Over an empty volume its calls are a sync, the append of the gate and a sync at opening, and then for each commit an
-// append, a sync, the gate's byte and a sync.
-#[test]
-fn a_volume_that_fails_at_opening_ends_a_run(rt: HostRuntime) -> Result<(), Fail> {
-    let alloc = rt.alloc();
-    for call in [1, 2, 3] {
-        let ran = still(&rt, alloc, b"", FIRST, 5, volume(&[call]))?;
-        ends(&rt, alloc, &ran, Status::VolumeFault, b"")?;
-    }
+    let bytes = ran.volume.as_slice();
+    assert!(rt; bytes.len() == 618);
+    assert_eq!(rt; bytes[173..], *THREE);
     Ok(())
 }
 
@@ -89,13 +93,16 @@ const FAILED_1: &[u8] =
 const FAILED_2: &[u8] =
     b"ok 1\nok 1 1000\nok 3\nrefused Failed 2\nrefused Stopped 2\nrefused Stopped 2\nrefused Json Ended\nok\nok 1\nok [1]\nrefused Missing 2 1\n";
 
-// A commit that fails stops the writer, and the run goes on to its end. The calls are those of the second commit.
+// A commit that fails stops the writer, and the run goes on to its end. The calls of a commit are an append, a sync, the
+// gate's byte and a sync.
 #[test]
 fn a_commit_that_fails_stops_the_writer(rt: HostRuntime) -> Result<(), Fail> {
     let alloc = rt.alloc();
-    for (call, want) in [(8, FAILED_1), (9, FAILED_1), (10, FAILED_2), (11, FAILED_2)] {
+    let before = calls_of_opening(&rt, alloc)?.saturating_add(4);
+    for (call, want) in [(1, FAILED_1), (2, FAILED_1), (3, FAILED_2), (4, FAILED_2)] {
         for script in [SECOND, SECOND_AND_QUIT] {
-            let ran = still(&rt, alloc, b"", script, 5, volume(&[call]))?;
+            let failing = [before.saturating_add(call)];
+            let ran = still(&rt, alloc, NEWBORN, script, 5, volume(&failing))?;
             ends(&rt, alloc, &ran, Status::VolumeFault, want)?;
         }
     }
@@ -109,9 +116,10 @@ fn the_fault_that_ends_a_run_is_told(rt: HostRuntime) -> Result<(), Fail> {
     let failing = Failing {
         source: &[1000],
         sink: &[3],
-        volume: &[4],
+        volume: &[calls_of_opening(&rt, alloc)?.saturating_add(1)],
+        ends: &[],
     };
-    let ran = still(&rt, alloc, b"", FIRST, 5, failing)?;
+    let ran = still(&rt, alloc, NEWBORN, FIRST, 5, failing)?;
     ends(
         &rt,
         alloc,
@@ -121,34 +129,27 @@ fn the_fault_that_ends_a_run_is_told(rt: HostRuntime) -> Result<(), Fail> {
     )
 }
 
-// Other words touch nothing, over objects all of which would fail.
-fn usage<R: Abort + Wait>(rt: &R, alloc: Global, words: &[&str]) -> Result<(), Fail> {
-    let mut list = Vec::new(alloc);
-    for word in words {
-        list.push(String::from_str(alloc, word)?)?;
-    }
-    let failing = Failing {
-        source: &[1],
-        sink: &[1],
-        volume: &[1],
-    };
-    let mut clock = StillClock { moment: 1000 };
-    let ran = run_words(rt, alloc, &list, b"hello", FIRST, 5, failing, &mut clock)?;
-    ends(rt, alloc, &ran, Status::Usage, b"")?;
-    assert_eq!(rt; ran.volume.as_slice(), b"hello".as_slice());
-    Ok(())
-}
-
+// The first read of each end fails. Asked again, the same line is answered.
 #[test]
-fn other_words_are_refused(rt: HostRuntime) -> Result<(), Fail> {
-    for words in [
-        [].as_slice(),
-        &["live"],
-        &["live", "a", "b"],
-        &["help"],
-        &["Live", "a"],
+fn a_read_that_fails_refuses_one_line(rt: HostRuntime) -> Result<(), Fail> {
+    let alloc = rt.alloc();
+    let failing = Failing { ends: &[1], ..NONE };
+    for (script, want) in [
+        (
+            b"open latest\ntext 0\ntext 0\nr1: open 1\nr1: hash 2\nr1: text 2\nr2: axis child 1\nr2: open 1\nr2: axis child 1\nr2: axis child 1".as_slice(),
+            b"ok 1\nrefused Failed\nok [1,2,3]\nok 1\nrefused Failed\nok 1\nrefused NoNode 1\nok 1\nrefused Failed\nok 2 3 4\n".as_slice(),
+        ),
+        (
+            b"set 2 9\nset 2 9\ncommit\nopen 2\ntext 0",
+            b"refused Failed\nok\nok 2 1000\nok 2\nok [9,2,3]\n",
+        ),
+        (
+            b"commit\ncommit\nopen 2\ntext 0",
+            b"refused Failed\nok 2 1000\nok 2\nok [1,2,3]\n",
+        ),
     ] {
-        usage(&rt, rt.alloc(), words)?;
+        let ran = still(&rt, alloc, &three(alloc)?, script, 9, failing)?;
+        ends(&rt, alloc, &ran, Status::Done, want)?;
     }
-    Ok(())
+    opens(&rt, alloc, &three(alloc)?, b"text 0", 9, b"ok empty\n")
 }

@@ -10,9 +10,9 @@ mod damage;
 #[cfg(test)]
 mod documents;
 #[cfg(test)]
-mod faults;
+mod edits;
 #[cfg(test)]
-mod forged;
+mod faults;
 #[cfg(test)]
 mod lines;
 #[cfg(test)]
@@ -20,4 +20,8 @@ mod revisions;
 #[cfg(test)]
 mod run;
 #[cfg(test)]
+mod stills;
+#[cfg(test)]
 mod streams;
+#[cfg(test)]
+mod volumes;

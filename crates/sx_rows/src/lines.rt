@@ -1,4 +1,5 @@
 use crate::checks::{opens, replies};
+use crate::volumes::NEWBORN;
 use std::test::Fail;
 
 #[test]
@@ -24,7 +25,11 @@ fn other_lines_are_refused(rt: HostRuntime) -> Result<(), Fail> {
             ),
             (
                 b"text 1\ntext\ntext 00\nr32: text 0\nr0: text 0\nr01: text 0",
-                b"refused line\nrefused line\nrefused line\nrefused line\nrefused line\nrefused line\n",
+                b"refused NoNode 1\nrefused line\nrefused line\nrefused line\nrefused line\nrefused line\n",
+            ),
+            (
+                b"set 1 []\nset 1 [\nrename 2 x\nnode 1073741824\naxis parent 0\nselect a\nvalid +1",
+                b"refused line\nrefused Json Ended\nrefused Json BadByte 0\nrefused line\nrefused line\nrefused line\nrefused line\n",
             ),
         ],
     )
@@ -35,10 +40,17 @@ fn a_line_has_at_most_8_388_608_bytes(rt: HostRuntime) -> Result<(), Fail> {
     let alloc = rt.alloc();
     let mut script = vec![in alloc; b'#'; 8_388_608]?;
     script.extend_from_slice(b"\nopen 0\n")?;
-    opens(&rt, alloc, b"", &script, 65_536, b"ok 0\n")?;
+    opens(&rt, alloc, NEWBORN, &script, 65_536, b"ok 0\n")?;
     let mut script = vec![in alloc; b'#'; 8_388_609]?;
     script.extend_from_slice(b"\nopen 0\n")?;
-    opens(&rt, alloc, b"", &script, 65_536, b"refused line\nok 0\n")
+    opens(
+        &rt,
+        alloc,
+        NEWBORN,
+        &script,
+        65_536,
+        b"refused line\nok 0\n",
+    )
 }
 
 #[test]

@@ -1,5 +1,6 @@
 use crate::checks::{ends, opens, replies, still};
 use crate::run::{NONE, run};
+use crate::volumes::{NEWBORN, three};
 use std::test::Fail;
 use sx_outside::ListClock;
 use sx_shell::Status;
@@ -57,7 +58,7 @@ fn times_never_fall(rt: HostRuntime) -> Result<(), Fail> {
     let alloc = rt.alloc();
     let mut clock = ListClock::new([1000, 900, 2000].to_vec(alloc)?);
     let script = b"commit\ncommit\ncommit";
-    let ran = run(&rt, alloc, b"", script, 9, NONE, &mut clock)?;
+    let ran = run(&rt, alloc, NEWBORN, script, 9, NONE, &mut clock)?;
     ends(
         &rt,
         alloc,
@@ -67,36 +68,26 @@ fn times_never_fall(rt: HostRuntime) -> Result<(), Fail> {
     )
 }
 
-// The groups of `[1,2,3]`, which takes 4 nodes, at the time 1000, and of the empty document at the same time.
+// The second volume begins with the first one but for its last gate.
 #[test]
-fn the_volume_has_the_groups(rt: HostRuntime) -> Result<(), Fail> {
+fn the_volume_has_the_group(rt: HostRuntime) -> Result<(), Fail> {
     let alloc = rt.alloc();
-    let one = b"\x01\0\0\0\0\0\0\x03\xe8\0\0\0\x05\0\0\0\x07[1,2,3]\0";
-    for start in [b"".as_slice(), b"\0", b"x"] {
-        let ran = still(&rt, alloc, start, b"load [1,2,3]\ncommit\nload 4", 9, NONE)?;
-        ends(&rt, alloc, &ran, Status::Done, b"ok 1\nok 1 1000\nok 5\n")?;
-        assert_eq!(rt; ran.volume.as_slice(), one.as_slice());
-    }
-    let none = b"\x01\0\0\0\0\0\0\x03\xe8\0\0\0\x01\0\0\0\0\0";
-    let ran = still(&rt, alloc, b"", b"commit\nquit\ncommit", 9, NONE)?;
-    assert_eq!(rt; ran.volume.as_slice(), none.as_slice());
+    let script = b"load [1,2,3]\ncommit\nload 4";
+    let ran = still(&rt, alloc, NEWBORN, script, 9, NONE)?;
+    ends(&rt, alloc, &ran, Status::Done, b"ok 1\nok 1 1000\nok 5\n")?;
+    let wanted = three(alloc)?;
+    assert_eq!(rt; ran.volume.as_slice(), wanted.as_slice());
     Ok(())
 }
 
 #[test]
 fn a_run_goes_on_where_the_last_one_ended(rt: HostRuntime) -> Result<(), Fail> {
     let alloc = rt.alloc();
-    let first = still(
-        &rt,
-        alloc,
-        b"",
-        b"load [7]\ncommit\nload 8\ncommit",
-        9,
-        NONE,
-    )?;
+    let script = b"load [7]\ncommit\nload 8\ncommit";
+    let first = still(&rt, alloc, NEWBORN, script, 9, NONE)?;
     let mut clock = ListClock::new([900, 2000].to_vec(alloc)?);
     let script =
-        b"text 0\nopen 1\ntext 0\nopen 2\ntext 0\nopen 3\nload \"x\"\ncommit\nopen 3\ntext 0\nopen 1\ntext 0\ncommit\nopen 5\n";
+        b"text 0\nopen 1\ntext 0\nopen 2\ntext 0\nopen 3\nreplace 3 \"x\"\ncommit\nopen 3\ntext 0\nopen 1\ntext 0\ncommit\nopen 5\n";
     let ran = run(
         &rt,
         alloc,
@@ -113,20 +104,7 @@ fn a_run_goes_on_where_the_last_one_ended(rt: HostRuntime) -> Result<(), Fail> {
         Status::Done,
         b"ok empty\nok 1\nok [7]\nok 2\nok 8\nrefused Missing 3 2\nok 4\nok 3 1000\nok 3\nok \"x\"\nok 1\nok [7]\nok 4 2000\nrefused Missing 5 4\n",
     )?;
-    assert_eq!(rt;
-        ran.volume.as_slice(),
-        b"\x01\0\0\0\0\0\0\x03\xe8\0\0\0\x03\0\0\0\x03[7]\
-          \x01\0\0\0\0\0\0\x03\xe8\0\0\0\x04\0\0\0\x018\
-          \x01\0\0\0\0\0\0\x03\xe8\0\0\0\x05\0\0\0\x03\"x\"\
-          \x01\0\0\0\0\0\0\x07\xd0\0\0\0\x05\0\0\0\x03\"x\"\0"
-            .as_slice()
-    );
-    opens(
-        &rt,
-        alloc,
-        ran.volume.as_slice(),
-        b"open latest",
-        9,
-        b"ok 4\n",
-    )
+    let script = b"open latest\ntext 0\nload 9";
+    let start = ran.volume.as_slice();
+    opens(&rt, alloc, start, script, 9, b"ok 4\nok \"x\"\nok 5\n")
 }

@@ -1,10 +1,11 @@
 ghost use Rattle.std.specs.Prelude.{◌≡◌, IfOk, vec_len};
 
+use crate::volumes::NEWBORN;
 use std::alloc::{AllocError, Global};
 use std::sync::Wait;
 use sx_outside::{Clock, MemSink, MemSource, OpenGate, Sink, Source};
-use sx_shell::{Status, run_live};
-use sx_volume::{MemEnd, MemVolume};
+use sx_shell::{Status, run_live, run_still};
+use sx_volume::{MemEnd, MemSpot, MemVolume, Volume};
 
 /// The calls that fail, counted from 1, of each object.
 #[derive(Clone, Copy)]
@@ -12,6 +13,8 @@ pub(crate) struct Failing<'a> {
     pub(crate) source: &'a [u64],
     pub(crate) sink: &'a [u64],
     pub(crate) volume: &'a [u64],
+    /// Of the writer's end, and of that of each reader.
+    pub(crate) ends: &'a [u64],
 }
 
 /// No call fails.
@@ -19,6 +22,7 @@ pub(crate) const NONE: Failing<'static> = Failing {
     source: &[],
     sink: &[],
     volume: &[],
+    ends: &[],
 };
 
 /// What a run left.
@@ -39,16 +43,43 @@ pub(crate) fn run<R: Wait, C: Clock>(
     failing: Failing,
     clock: &mut C,
 ) -> Result<Ran, AllocError> {
-    let words = live_words(alloc)?;
+    let words = words_of(alloc, &["live", "file"])?;
     run_words(rt, alloc, &words, start, script, most, failing, clock)
 }
 
-/// The words of the command.
-fn live_words(alloc: Global) -> Result<Vec<String>, AllocError> {
-    let mut words = Vec::new(alloc);
-    words.push(String::from_str(alloc, "live")?)?;
-    words.push(String::from_str(alloc, "file")?)?;
-    Ok(words)
+/// The words as the program has them.
+pub(crate) fn words_of(alloc: Global, words: &[&str]) -> Result<Vec<String>, AllocError> {
+    let mut list = Vec::new(alloc);
+    for word in words {
+        list.push(String::from_str(alloc, word)?)?;
+    }
+    Ok(list)
+}
+
+/// Runs these words over the volume, by an end of which the reads with these numbers fail. They run no script. The
+/// result is the status with what is written.
+pub(crate) fn run_still_over<V: Volume<Spot = MemSpot, End = MemEnd>>(
+    alloc: Global,
+    words: &[&str],
+    volume: &mut V,
+    failing: &[u64],
+) -> Result<(Status, Vec<u8>), AllocError> {
+    let words = words_of(alloc, words)?;
+    let mut end = MemEnd::new(failing.to_vec(alloc)?);
+    let mut sink = MemSink::new(alloc, 1 << 16, Vec::new(alloc))?;
+    let status = run_still(alloc, &words, volume, &mut end, &mut sink);
+    Ok((status, sink.bytes().to_vec(alloc)?))
+}
+
+/// Checks a volume with these bytes.
+pub(crate) fn check(alloc: Global, start: &[u8]) -> Result<Ran, AllocError> {
+    let mut volume = MemVolume::new(alloc, start.to_vec(alloc)?, Vec::new(alloc))?;
+    let (status, output) = run_still_over(alloc, &["check", "f"], &mut volume, &[])?;
+    Ok(Ran {
+        status,
+        output,
+        volume,
+    })
 }
 
 /// The same for any words.
@@ -69,7 +100,7 @@ pub(crate) fn run_words<R: Wait, C: Clock>(
         failing.source.to_vec(alloc)?,
     );
     let mut sink = MemSink::new(alloc, 1 << 16, failing.sink.to_vec(alloc)?)?;
-    let mut ends = make_ends(alloc)?;
+    let mut ends = make_ends(alloc, failing.ends)?;
     let status = run_live(
         rt,
         alloc,
@@ -88,7 +119,7 @@ pub(crate) fn run_words<R: Wait, C: Clock>(
     })
 }
 
-/// Runs `live` over an empty volume, with this source and this sink.
+/// Runs `live` over a newborn volume, with this source and this sink.
 pub(crate) fn run_between<R: Wait, S: Source, K: Sink, C: Clock>(
     rt: &R,
     alloc: Global,
@@ -96,9 +127,9 @@ pub(crate) fn run_between<R: Wait, S: Source, K: Sink, C: Clock>(
     sink: &mut K,
     clock: &mut C,
 ) -> Result<Status, AllocError> {
-    let words = live_words(alloc)?;
-    let mut volume = MemVolume::new(alloc, Vec::new(alloc), Vec::new(alloc))?;
-    let mut ends = make_ends(alloc)?;
+    let words = words_of(alloc, &["live", "file"])?;
+    let mut volume = MemVolume::new(alloc, NEWBORN.to_vec(alloc)?, Vec::new(alloc))?;
+    let mut ends = make_ends(alloc, &[])?;
     Ok(run_live(
         rt,
         alloc,
@@ -112,13 +143,13 @@ pub(crate) fn run_between<R: Wait, S: Source, K: Sink, C: Clock>(
     ))
 }
 
-// The ends of all clients, none of which fails.
-fn make_ends(alloc: Global) -> Result<Vec<MemEnd>, AllocError>
+// The ends of all clients, of each of which the reads with these numbers fail.
+fn make_ends(alloc: Global, failing: &[u64]) -> Result<Vec<MemEnd>, AllocError>
     ensures { IfOk result (λ ends. vec_len ends ≡ 32) }
 {
     let mut ends = Vec::new(alloc);
     while ends.len() < 32 {
-        ends.push(MemEnd::new(Vec::new(alloc)))?;
+        ends.push(MemEnd::new(failing.to_vec(alloc)?))?;
     }
     Ok(ends)
 }

@@ -3,8 +3,11 @@ pub mod Crash
 pub mod Desk
 pub mod Done
 pub mod Live
+pub mod Medium
 pub mod Outcome
+pub mod Plain
 pub mod Progress
 pub mod Said
 pub mod Shows
+pub mod Still
 pub mod Words

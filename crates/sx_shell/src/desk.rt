@@ -1,24 +1,24 @@
-ghost use Rattle.std.specs.Prelude.{◌≡◌, ◌≢◌, ◌<◌, ℕ, ℤ, List, Option, Some, None, IfOk};
-ghost use Rattle.sx_model.specs.Edit.{edit_of};
-ghost use Rattle.sx_model.specs.LoadDocuments.{IsLoad};
+ghost use Rattle.std.specs.Prelude.{◌≡◌, ◌≢◌, ◌<◌, ℕ, ℤ, List, Option, Some, None, IfOk, IsSome};
+ghost use Rattle.sx_layout.specs.Birth.{Birth};
 ghost use Rattle.sx_run.specs.Client.{client_count};
-ghost use Rattle.sx_run.specs.Run.{Answers, Course, edited_said};
+ghost use Rattle.sx_run.specs.Item.{GoesOn};
+ghost use Rattle.sx_run.specs.Run.{Course, edited_said};
 ghost use Rattle.sx_run.specs.declared.line.Command.TheVariants as commands;
-ghost use Rattle.sx_script.specs.Told.{IsTold};
-ghost use Rattle.sx_shell.specs.Desk.{IsAnswered, IsAsked, IsEnd, said_only, wanted};
-ghost use Rattle.sx_shell.specs.Done.{Continues, place};
-ghost use Rattle.sx_shell.specs.Said.{IsSaidOf};
-ghost use Rattle.sx_shell.specs.Shows.{IsReady, Shows};
-ghost use Rattle.sx_store.specs.Room.{room};
+ghost use Rattle.sx_script.specs.Told.{IsCommandWithin, IsEditWithin, IsTold};
+ghost use Rattle.sx_shell.specs.Desk.{IsAnswered, IsEnd, Opens, wanted};
+ghost use Rattle.sx_shell.specs.Done.{Continues, IsAt, place};
+ghost use Rattle.sx_shell.specs.Medium.{EndsGoOn, medium};
+ghost use Rattle.sx_shell.specs.Said.{IsAnswerOf, IsEditOf, IsSaidOf};
+ghost use Rattle.sx_shell.specs.Shows.{IsReady};
 ghost use Rattle.sx_store.specs.Shows.{stage_of};
 
 use crate::Status;
 use std::alloc::{AllocError, Global};
 use sx_outside::Clock;
 use sx_script::{Command, Said};
-use sx_store::{CommitFault, Committed, Writer, WriterFault};
-use sx_tree::edit::Edit;
-use sx_tree::query::{Query, Which};
+use sx_store::{CommitFault, Committed, QueryFault, Writer, WriterFault};
+use sx_tree::edit::{Edit, Edited};
+use sx_tree::query::{Answer, Query, Which};
 use sx_volume::Volume;
 
 /// The writer's client and 31 readers.
@@ -32,34 +32,44 @@ pub(crate) struct Desk<'a, V: Volume> {
 }
 
 impl<V: Volume> Desk<'_, V> {
-    /// What is said to a command of a client, other than `quit`. After want of memory the command has done nothing.
+    /// What is said to a command of a client, other than `quit`. It reads the client's end. After want of memory the command has done
+    /// nothing.
     pub(crate) fn run<C: Clock>(
         &mut self,
         alloc: Global,
+        ends: &mut [V::End],
         clock: &mut C,
         client: u32,
         command: &Command,
     ) -> Result<Said, AllocError>
-        requires ready { IsReady V.Volume self.old.writer.volume.now self.old.writer.ledger self.old.revisions }
+        requires ready { IsReady V.Volume V.Spot.Spot self.old.writer.volume.now self.old.writer.ledger ends.old self.old.revisions }
         requires known { client < client_count }
-        requires asked { IsAsked command.now }
+        requires asked { GoesOn command.now }
+        requires within { IsCommandWithin command.now }
         ensures same_reference { self.new.writer.volume.ghost_name ≡ self.old.writer.volume.ghost_name }
-        ensures ready { IsReady V.Volume self.new.writer.volume.now self.new.writer.ledger self.new.revisions }
-        ensures continues { Continues V.Volume self.old.writer.volume.now self.new.writer.volume.now self.old.writer.ledger self.new.writer.ledger }
+        ensures ready { IsReady V.Volume V.Spot.Spot self.new.writer.volume.now self.new.writer.ledger ends.new self.new.revisions }
+        ensures continues { Continues V.Volume V.Spot.Spot self.old.writer.volume.now self.new.writer.volume.now self.old.writer.ledger self.new.writer.ledger }
+        ensures ends { EndsGoOn V.End.ReadEnd ends.old ends.new }
         ensures told { IfOk result IsTold }
-        ensures answered { (course : Course) → Shows self.old.writer.ledger self.old.revisions (C.moments clock.old) course
-            → IsAnswered V.Volume (record {
+        ensures answered { (birth : Birth) (course : Course) → IsAt (medium birth V.Volume V.Spot.Spot V.End.ReadEnd) (place self.old.writer.volume.now self.old.writer.ledger ends.old self.old.revisions None (C.moments clock.old)) course
+            → IsAnswered (medium birth V.Volume V.Spot.Spot V.End.ReadEnd) (record {
               course = course;
-              old = place self.old.writer.volume.now self.old.writer.ledger self.old.revisions None (C.moments clock.old);
-              new = place self.new.writer.volume.now self.new.writer.ledger self.new.revisions None (C.moments clock.new);
+              old = place self.old.writer.volume.now self.old.writer.ledger ends.old self.old.revisions None (C.moments clock.old);
+              new = place self.new.writer.volume.now self.new.writer.ledger ends.new self.new.revisions None (C.moments clock.new);
             }) client command.now result }
     {
         match command {
-            Command::Edit(edit) => self.edit(alloc, edit),
-            Command::Rollback => Ok(self.rollback()),
-            Command::Commit => self.commit(alloc, clock),
-            Command::Open(which) => Ok(self.open(client, *which)),
-            Command::Ask(query) => self.ask(alloc, client, query),
+            Command::Edit(edit) => self.edit(alloc, ends, client, edit),
+            Command::Rollback => {
+                self.writer.rollback();
+                Ok(Said::Done)
+            }
+            Command::Commit => self.commit(alloc, ends, clock, client),
+            Command::Open(which) => {
+                let seen = self.writer.ledger.count();
+                Ok(open(&mut self.revisions, client, *which, seen))
+            }
+            Command::Ask(query) => self.ask(alloc, ends, client, query),
             Command::Quit => unreachable!("quit ends the run"),
         }
     }
@@ -75,96 +85,108 @@ impl<V: Volume> Desk<'_, V> {
         }
     }
 
-    fn edit(&mut self, alloc: Global, edit: &Edit) -> Result<Said, AllocError>
-        requires ready { IsReady V.Volume self.old.writer.volume.now self.old.writer.ledger self.old.revisions }
-        requires load { IsLoad (edit_of edit.now) }
+    fn edit(
+        &mut self,
+        alloc: Global,
+        ends: &mut [V::End],
+        client: u32,
+        edit: &Edit,
+    ) -> Result<Said, AllocError>
+        requires ready { IsReady V.Volume V.Spot.Spot self.old.writer.volume.now self.old.writer.ledger ends.old self.old.revisions }
+        requires known { client < client_count }
+        requires within { IsEditWithin edit.now }
         ensures same_reference { self.new.writer.volume.ghost_name ≡ self.old.writer.volume.ghost_name }
-        ensures ready { IsReady V.Volume self.new.writer.volume.now self.new.writer.ledger self.new.revisions }
-        ensures continues { Continues V.Volume self.old.writer.volume.now self.new.writer.volume.now self.old.writer.ledger self.new.writer.ledger }
+        ensures ready { IsReady V.Volume V.Spot.Spot self.new.writer.volume.now self.new.writer.ledger ends.new self.new.revisions }
+        ensures continues { Continues V.Volume V.Spot.Spot self.old.writer.volume.now self.new.writer.volume.now self.old.writer.ledger self.new.writer.ledger }
+        ensures ends { EndsGoOn V.End.ReadEnd ends.old ends.new }
         ensures told { IfOk result IsTold }
-        ensures answered { (client : ℕ) (moments : Option (List ℤ)) (course : Course) → Shows self.old.writer.ledger self.old.revisions (moments) course
-            → IsAnswered V.Volume (record {
+        ensures answered { (birth : Birth) (moments : Option (List ℤ)) (course : Course) → IsAt (medium birth V.Volume V.Spot.Spot V.End.ReadEnd) (place self.old.writer.volume.now self.old.writer.ledger ends.old self.old.revisions None moments) course
+            → IsAnswered (medium birth V.Volume V.Spot.Spot V.End.ReadEnd) (record {
               course = course;
-              old = place self.old.writer.volume.now self.old.writer.ledger self.old.revisions None (moments);
-              new = place self.new.writer.volume.now self.new.writer.ledger self.new.revisions None (moments);
+              old = place self.old.writer.volume.now self.old.writer.ledger ends.old self.old.revisions None moments;
+              new = place self.new.writer.volume.now self.new.writer.ledger ends.new self.new.revisions None moments;
             }) client (commands.Edit edit.now) result }
     {
-        match self.writer.edit(alloc, edit) {
-            Ok(edited) => Ok(edited_said(edited.first)),
-            Err(WriterFault::Stopped { stage }) => Ok(Said::Stopped { stage }),
-            Err(WriterFault::Refused(refusal)) => Ok(Said::Refused(refusal)),
-            Err(WriterFault::OutOfMemory) => Err(AllocError),
-        }
+        edit_said(self.writer.edit(alloc, &mut ends[client as usize], edit))
     }
 
-    fn rollback(&mut self) -> Said
-        requires ready { IsReady V.Volume self.old.writer.volume.now self.old.writer.ledger self.old.revisions }
+    fn commit<C: Clock>(
+        &mut self,
+        alloc: Global,
+        ends: &mut [V::End],
+        clock: &mut C,
+        client: u32,
+    ) -> Result<Said, AllocError>
+        requires ready { IsReady V.Volume V.Spot.Spot self.old.writer.volume.now self.old.writer.ledger ends.old self.old.revisions }
+        requires known { client < client_count }
         ensures same_reference { self.new.writer.volume.ghost_name ≡ self.old.writer.volume.ghost_name }
-        ensures ready { IsReady V.Volume self.new.writer.volume.now self.new.writer.ledger self.new.revisions }
-        ensures continues { Continues V.Volume self.old.writer.volume.now self.new.writer.volume.now self.old.writer.ledger self.new.writer.ledger }
-        ensures told { IsTold result }
-        ensures answered { (client : ℕ) (moments : Option (List ℤ)) (course : Course) → Shows self.old.writer.ledger self.old.revisions (moments) course
-            → IsAnswered V.Volume (record {
-              course = course;
-              old = place self.old.writer.volume.now self.old.writer.ledger self.old.revisions None (moments);
-              new = place self.new.writer.volume.now self.new.writer.ledger self.new.revisions None (moments);
-            }) client commands.Rollback (said_only result) }
-    {
-        self.writer.rollback();
-        Said::Done
-    }
-
-    fn commit<C: Clock>(&mut self, alloc: Global, clock: &mut C) -> Result<Said, AllocError>
-        requires ready { IsReady V.Volume self.old.writer.volume.now self.old.writer.ledger self.old.revisions }
-        ensures same_reference { self.new.writer.volume.ghost_name ≡ self.old.writer.volume.ghost_name }
-        ensures ready { IsReady V.Volume self.new.writer.volume.now self.new.writer.ledger self.new.revisions }
-        ensures continues { Continues V.Volume self.old.writer.volume.now self.new.writer.volume.now self.old.writer.ledger self.new.writer.ledger }
+        ensures ready { IsReady V.Volume V.Spot.Spot self.new.writer.volume.now self.new.writer.ledger ends.new self.new.revisions }
+        ensures continues { Continues V.Volume V.Spot.Spot self.old.writer.volume.now self.new.writer.volume.now self.old.writer.ledger self.new.writer.ledger }
+        ensures ends { EndsGoOn V.End.ReadEnd ends.old ends.new }
         ensures told { IfOk result IsTold }
-        ensures answered { (client : ℕ) (course : Course) → Shows self.old.writer.ledger self.old.revisions (C.moments clock.old) course
-            → IsAnswered V.Volume (record {
+        ensures answered { (birth : Birth) (course : Course) → IsAt (medium birth V.Volume V.Spot.Spot V.End.ReadEnd) (place self.old.writer.volume.now self.old.writer.ledger ends.old self.old.revisions None (C.moments clock.old)) course
+            → IsAnswered (medium birth V.Volume V.Spot.Spot V.End.ReadEnd) (record {
               course = course;
-              old = place self.old.writer.volume.now self.old.writer.ledger self.old.revisions None (C.moments clock.old);
-              new = place self.new.writer.volume.now self.new.writer.ledger self.new.revisions None (C.moments clock.new);
+              old = place self.old.writer.volume.now self.old.writer.ledger ends.old self.old.revisions None (C.moments clock.old);
+              new = place self.new.writer.volume.now self.new.writer.ledger ends.new self.new.revisions None (C.moments clock.new);
             }) client commands.Commit result }
     {
-        committed_said(self.writer.commit(alloc, clock))
+        committed_said(self.writer.commit(alloc, &mut ends[client as usize], clock))
     }
 
-    // Opens the revision for the client, if it is there.
-    fn open(&mut self, client: u32, which: Which) -> Said
-        requires ready { IsReady V.Volume self.old.writer.volume.now self.old.writer.ledger self.old.revisions }
+    fn ask(
+        &mut self,
+        alloc: Global,
+        ends: &mut [V::End],
+        client: u32,
+        query: &Query,
+    ) -> Result<Said, AllocError>
+        requires ready { IsReady V.Volume V.Spot.Spot self.old.writer.volume.now self.old.writer.ledger ends.old self.old.revisions }
         requires known { client < client_count }
         ensures same_reference { self.new.writer.volume.ghost_name ≡ self.old.writer.volume.ghost_name }
-        ensures ready { IsReady V.Volume self.new.writer.volume.now self.new.writer.ledger self.new.revisions }
-        ensures continues { Continues V.Volume self.old.writer.volume.now self.new.writer.volume.now self.old.writer.ledger self.new.writer.ledger }
-        ensures told { IsTold result }
-        ensures answered { (moments : Option (List ℤ)) (course : Course) → Shows self.old.writer.ledger self.old.revisions (moments) course
-            → IsAnswered V.Volume (record {
-              course = course;
-              old = place self.old.writer.volume.now self.old.writer.ledger self.old.revisions None (moments);
-              new = place self.new.writer.volume.now self.new.writer.ledger self.new.revisions None (moments);
-            }) client (commands.Open which) (said_only result) }
-    {
-        let seen = self.writer.ledger.count();
-        let asked = wanted(which, seen);
-        if asked > seen {
-            return Said::Missing { asked, seen };
-        }
-        self.revisions[client as usize] = asked;
-        Said::Opened(asked)
-    }
-
-    fn ask(&self, alloc: Global, client: u32, query: &Query) -> Result<Said, AllocError>
-        requires ready { IsReady V.Volume self.now.writer.volume.now self.now.writer.ledger self.now.revisions }
-        requires known { client < client_count }
-        requires asked { query.now ≡ Query.Text 0 }
+        ensures ready { IsReady V.Volume V.Spot.Spot self.new.writer.volume.now self.new.writer.ledger ends.new self.new.revisions }
+        ensures continues { Continues V.Volume V.Spot.Spot self.old.writer.volume.now self.new.writer.volume.now self.old.writer.ledger self.new.writer.ledger }
+        ensures ends { EndsGoOn V.End.ReadEnd ends.old ends.new }
         ensures told { IfOk result IsTold }
-        ensures answered { IfOk result (λ said. (moments : Option (List ℤ)) (course : Course) → Shows self.now.writer.ledger self.now.revisions moments course
-            → Answers room course client (commands.Ask query.now) said course) }
+        ensures answered { (birth : Birth) (moments : Option (List ℤ)) (course : Course) → IsAt (medium birth V.Volume V.Spot.Spot V.End.ReadEnd) (place self.old.writer.volume.now self.old.writer.ledger ends.old self.old.revisions None moments) course
+            → IsAnswered (medium birth V.Volume V.Spot.Spot V.End.ReadEnd) (record {
+              course = course;
+              old = place self.old.writer.volume.now self.old.writer.ledger ends.old self.old.revisions None moments;
+              new = place self.new.writer.volume.now self.new.writer.ledger ends.new self.new.revisions None moments;
+            }) client (commands.Ask query.now) result }
     {
         let revision = self.revisions[client as usize];
-        let answer = self.writer.answer(alloc, revision, query)?;
-        Ok(Said::Answer(answer))
+        let end = &mut ends[client as usize];
+        asked_said(self.writer.answer(alloc, end, revision, query))
+    }
+}
+
+// Opens the revision for the client, if it is there: so many commits are seen.
+fn open(revisions: &mut [u32; 32], client: u32, which: Which, seen: u32) -> Said
+    requires { client < client_count }
+    ensures opens { Opens (wanted which seen) seen client revisions.old result revisions.new }
+    ensures told { IsTold result }
+{
+    let asked = wanted(which, seen);
+    if asked > seen {
+        return Said::Missing { asked, seen };
+    }
+    revisions[client as usize] = asked;
+    Said::Opened(asked)
+}
+
+// What is said of an edit that ended so. After want of memory nothing is.
+fn edit_said(ended: Result<Edited, WriterFault>) -> Result<Said, AllocError>
+    ensures said { IsEditOf ended result }
+    ensures told { IfOk result IsTold }
+{
+    match ended {
+        Ok(edited) => Ok(edited_said(edited.first)),
+        Err(WriterFault::Stopped { stage }) => Ok(Said::Stopped { stage }),
+        Err(WriterFault::Refused(refusal)) => Ok(Said::Refused(refusal)),
+        Err(WriterFault::Failed) => Ok(Said::Failed),
+        Err(WriterFault::Damaged(damage)) => Ok(Said::Damaged(damage)),
+        Err(WriterFault::OutOfMemory) => Err(AllocError),
     }
 }
 
@@ -190,9 +212,28 @@ fn committed_said(ended: Result<Committed, CommitFault>) -> Result<Said, AllocEr
             time: done.time,
         }),
         Err(CommitFault::Stopped { stage }) => Ok(Said::Stopped { stage }),
+        Err(CommitFault::ReadFailed) => Ok(Said::Failed),
+        Err(CommitFault::Damaged(damage)) => Ok(Said::Damaged(damage)),
+        Err(CommitFault::LogFull { frames, revisions }) => Ok(Said::LogFull { frames, revisions }),
         Err(CommitFault::CommitTooLarge { bytes }) => Ok(Said::CommitTooLarge { bytes }),
         Err(CommitFault::OutOfMemory) => Err(AllocError),
         Err(CommitFault::Failed { stage }) => Ok(Said::FailedStage { stage }),
+    }
+}
+
+// What is said of a question that was answered so. After want of memory nothing is.
+fn asked_said(answered: Result<Answer, QueryFault>) -> Result<Said, AllocError>
+    ensures said { IsAnswerOf answered result }
+    ensures told { IfOk result IsTold }
+{
+    match answered {
+        Ok(answer) => Ok(Said::Answer(answer)),
+        Err(QueryFault::Missing { asked, seen }) => Ok(Said::Missing { asked, seen }),
+        Err(QueryFault::NoNode { node }) => Ok(Said::NoNode { node }),
+        Err(QueryFault::NoPath { path }) => Ok(Said::NoPath { path }),
+        Err(QueryFault::Failed) => Ok(Said::Failed),
+        Err(QueryFault::Damaged(damage)) => Ok(Said::Damaged(damage)),
+        Err(QueryFault::OutOfMemory) => Err(AllocError),
     }
 }
 

@@ -1,11 +1,13 @@
 ghost use Rattle.std.specs.Prelude.{◌≡◌, ◌≢◌, ◌≤◌, None, Some};
+ghost use Rattle.sx_layout.specs.Birth.{Birth};
 ghost use Rattle.sx_outside.specs.Faults.{Rose};
 ghost use Rattle.sx_run.specs.Reply.{reply_bytes};
 ghost use Rattle.sx_run.specs.Run.{Course};
 ghost use Rattle.sx_script.specs.Told.{IsTold, IsWithin};
 ghost use Rattle.sx_shell.specs.Desk.{IsEndOf, IsTaken, IsWritten};
-ghost use Rattle.sx_shell.specs.Done.{Continues, IsServed, place};
-ghost use Rattle.sx_shell.specs.Shows.{IsReady, Shows};
+ghost use Rattle.sx_shell.specs.Done.{Continues, IsAt, IsServed, place};
+ghost use Rattle.sx_shell.specs.Medium.{EndsGoOn, medium};
+ghost use Rattle.sx_shell.specs.Shows.{IsReady};
 ghost use Rattle.sx_store.specs.Shows.{stage_of};
 
 use crate::Status;
@@ -21,19 +23,21 @@ use sx_volume::Volume;
 pub(crate) fn serve<V: Volume, K: Sink, C: Clock>(
     alloc: Global,
     desk: &mut Desk<'_, V>,
+    ends: &mut [V::End],
     sink: &mut K,
     clock: &mut C,
     line: &Line,
 ) -> Option<Status>
-    requires ready { IsReady V.Volume desk.old.writer.volume.now desk.old.writer.ledger desk.old.revisions }
+    requires ready { IsReady V.Volume V.Spot.Spot desk.old.writer.volume.now desk.old.writer.ledger ends.old desk.old.revisions }
     requires within { IsWithin line.now }
     requires taken { IsTaken line.now }
     ensures same_reference { desk.new.writer.volume.ghost_name ≡ desk.old.writer.volume.ghost_name }
-    ensures ready { IsReady V.Volume desk.new.writer.volume.now desk.new.writer.ledger desk.new.revisions }
-    ensures continues { Continues V.Volume desk.old.writer.volume.now desk.new.writer.volume.now desk.old.writer.ledger desk.new.writer.ledger }
-    ensures served { (course : Course) → Shows desk.old.writer.ledger desk.old.revisions (C.moments clock.old) course
-        → IsServed V.Volume course line.now (place desk.old.writer.volume.now desk.old.writer.ledger desk.old.revisions (K.written sink.old) (C.moments clock.old))
-        (place desk.new.writer.volume.now desk.new.writer.ledger desk.new.revisions (K.written sink.new) (C.moments clock.new)) result }
+    ensures ready { IsReady V.Volume V.Spot.Spot desk.new.writer.volume.now desk.new.writer.ledger ends.new desk.new.revisions }
+    ensures continues { Continues V.Volume V.Spot.Spot desk.old.writer.volume.now desk.new.writer.volume.now desk.old.writer.ledger desk.new.writer.ledger }
+    ensures ends { EndsGoOn V.End.ReadEnd ends.old ends.new }
+    ensures served { (birth : Birth) (course : Course) → IsAt (medium birth V.Volume V.Spot.Spot V.End.ReadEnd) (place desk.old.writer.volume.now desk.old.writer.ledger ends.old desk.old.revisions (K.written sink.old) (C.moments clock.old)) course
+        → IsServed (medium birth V.Volume V.Spot.Spot V.End.ReadEnd) course line.now (place desk.old.writer.volume.now desk.old.writer.ledger ends.old desk.old.revisions (K.written sink.old) (C.moments clock.old))
+        (place desk.new.writer.volume.now desk.new.writer.ledger ends.new desk.new.revisions (K.written sink.new) (C.moments clock.new)) result }
     ensures ended { IsEndOf (stage_of desk.new.writer.ledger) result }
     ensures no_read { result ≢ Some Status.ReadFault }
     ensures write_fault { result ≡ Some Status.WriteFault → Rose (K.faults sink.old) (K.faults sink.new) }
@@ -46,7 +50,7 @@ pub(crate) fn serve<V: Volume, K: Sink, C: Clock>(
         Line::BadJson { fault, .. } => say(alloc, sink, Said::Json(*fault)),
         Line::Command { client, command } => match command {
             Command::Quit => Some(desk.end()),
-            _ => match desk.run(alloc, clock, *client, command) {
+            _ => match desk.run(alloc, ends, clock, *client, command) {
                 Ok(said) => say(alloc, sink, said),
                 Err(_) => Some(Status::OutOfMemory),
             },

@@ -1,164 +1,104 @@
--- What a commit makes of a ledger that shows a book, and what a crash may leave of it.
-use Rattle.std.proofs.Common.{◌≡◌, ◌∙◌, ℕ, ◌+◌, ◌<◌, ◌≤◌, ◌⊎◌, inl, inr, ℤ, List, [], ◌∷◌, ◌++◌, length, slice_set, Option, None, Some, IfSome, Ok, Err, nat_lt, true, false, refl, ap, sym, subst, arith, append-nil, length-append, FitsSigned, w64}
-use Rattle.std.proofs.lemmas.Bool.Decides.{nat_tests}
-use Rattle.std.specs.Int.{int_max}
-use Rattle.sx_layout.specs.Group.{Group, HasGroups, end_of, group_limit, last_time as last_group_time}
-use Rattle.sx_layout.specs.Stands.{Stands, StandsOnceOpened}
-use Rattle.sx_model.specs.Commit.{Commit, replay, first_time}
-use Rattle.sx_model.specs.Edit.{Edit, after}
-use Rattle.sx_model.specs.State.{State, empty_document}
-use Rattle.sx_model.specs.TreeText.{document_text}
-use Rattle.sx_plain.specs.Row.{group_of}
-use Rattle.sx_run.specs.Run.{Book, current, next_commit}
-use Rattle.sx_run.specs.declared.reply.Said.TheVariants as said
-use Rattle.sx_store.specs.Commits.{Commits, Leaves, LeavesFailed, StandsWithOrWithout}
-use Rattle.sx_store.specs.Open.{body_of, next_of}
-use Rattle.sx_store.specs.Room.{HasNoRoom, commit_size, room}
-use Rattle.sx_store.specs.Shows.{Shows, stage_of}
-use Rattle.sx_store.specs.Sound.{HasAll, HoldAll, IsSound}
+-- What a crash may leave while a group is written behind the groups of a ledger.
+use Rattle.std.proofs.Common.{◌≡◌, ◌∙◌, ◌⊎◌, inl, ⊎_elim, ℕ, zero, suc, ◌≤◌, List, [], ◌∷◌, ◌++◌, slice_set, Option, Some, IfSome, ap, sym, subst, arith, Result, Ok, Err}
+use Rattle.std.specs.Prelude.{IsErrAnd}
+use Rattle.std.specs.Option.{option_map}
+use Rattle.sx_layout.specs.Birth.{Birth}
+use Rattle.sx_layout.specs.Born.{HasLog}
+use Rattle.sx_layout.specs.FrameGroup.{FrameGroup, gate_behind}
+use Rattle.sx_log.specs.Committing.{KeepsLog, SameLog, with_staged}
+use Rattle.sx_log.specs.Creating.{birth_of}
+use Rattle.sx_log.specs.declared.birth.Birth.{Birth as Names}
+use Rattle.sx_log.specs.declared.log.Log.{Log}
+use Rattle.sx_log.proofs.Finding.{all_told}
+use Rattle.sx_store.specs.Commits.{HasWithOrWithout, LeavesGroups, LeavesStage, LeavesWritten}
 use Rattle.sx_store.specs.declared.fault.CommitFault.{CommitFault}
-use Rattle.sx_store.specs.declared.fault.CommitFault.TheVariants.{Stopped, CommitTooLarge, OutOfMemory, Failed}
+use Rattle.sx_store.specs.declared.fault.CommitFault.TheVariants as faults
 use Rattle.sx_store.specs.declared.fault.Committed.{Committed}
-use Rattle.sx_store.specs.declared.ledger.Ledger.{Ledger}
-use Rattle.sx_store.proofs.Books.{replay-append}
-use Rattle.sx_store.proofs.Shown.{body_is, count_is, stands, stands_with, shows_with, shows_failed, time_is}
-use Rattle.sx_volume.specs.Images.{KeptSince}
+use Rattle.sx_volume.specs.Images.{Elapses, KeptSince, Syncs}
+use Rattle.sx_volume.specs.declared.volume.Volume.{Ghosts}
 
--- what a commit of the open edits takes
-size_of : (ledger : Ledger) (book : Book) (next : Commit) → Shows ledger book → next.edits ≡ book.edits → commit_size (book.commits ++ next ∷ []) ≡ 17 + length (body_of ledger)
-size_of ledger book next shows same =
-    let now : replay (book.commits ++ next ∷ []) empty_document ≡ current book =
-    replay-append book.commits next empty_document ∙ ap (λ (edits : List Edit). after edits (replay book.commits empty_document)) same in
-    ap (λ (s : State). 17 + length (document_text s.trees)) now ∙ ap (λ (t : List ℕ). 17 + length t) (sym (body_is ledger book shows))
+pub mapped_told : (bytes now : Option (List ℕ)) (f : List ℕ → List ℕ) (all : List ℕ) → bytes ≡ Some all → now ≡ option_map f bytes → (P : List ℕ → Type 0) → IfSome now P → P (f all)
+mapped_told bytes now f all is made P holds = subst (λ (b : Option (List ℕ)). IfSome b P) (made ∙ ap (option_map f) is) holds
 
-pub has_room : (ledger : Ledger) (book : Book) (moment : ℤ) → Shows ledger book → 17 + length (body_of ledger) ≤ group_limit → room (book.commits ++ next_commit book moment ∷ []) ≡ None
-has_room ledger book moment shows small =
-    let size = size_of ledger book (next_commit book moment) shows refl in
-    let fits : nat_lt group_limit (17 + length (body_of ledger)) ≡ false = grind (arith, nat_tests) in
-    rw (size, fits) refl
+-- what is left over two calls, the second of which begins where the first one ended
+module _ {V Spot End : Type 0} (g : Ghosts V Spot End) (old mid new : V) (later : g.moment old ≤ g.moment mid)
+    (time : Elapses (g.moment mid) (g.moment new) (g.was_image mid) (g.was_image new) (g.synced mid) (g.synced new)) where
+  pub left_then : (P : List ℕ → Type 0) → ((c : List ℕ) → g.was_image mid (g.moment old) c → P c) → ((c : List ℕ) → g.was_image new (g.moment mid) c → P c)
+      → (c : List ℕ) → g.was_image new (g.moment old) c → P c
+  left_then P first second c left =
+      ⊎_elim (λ (before : g.was_image mid (g.moment old) c). first c before) (λ (during : g.was_image new (g.moment mid) c). second c during) (time.nothing_else (g.moment old) c later left)
 
-no_room : (ledger : Ledger) (book : Book) (moment : ℤ) (bytes : ℕ) → Shows ledger book → bytes ≡ 17 + length (body_of ledger) → group_limit < bytes
-    → room (book.commits ++ next_commit book moment ∷ []) ≡ Some (said.CommitTooLarge bytes)
-no_room ledger book moment bytes shows is large =
-    let size : commit_size (book.commits ++ next_commit book moment ∷ []) ≡ bytes = size_of ledger book (next_commit book moment) shows refl ∙ sym is in
-    let past : nat_lt group_limit bytes ≡ true = grind (arith, nat_tests) in
-    rw (size, past) refl
+  -- the first call synced at its end
+  pub kept_since : (P : List ℕ → Type 0) → Syncs (g.moment old) (g.moment mid) (g.synced old) (g.synced mid) → ((c : List ℕ) → g.was_image new (g.moment mid) c → P c)
+      → KeptSince (g.moment old) (g.was_image new) (g.synced new) P
+  kept_since P syncs kept = (g.moment mid, syncs.later, time.syncs (g.moment mid) syncs.here, kept)
 
--- a commit that was refused before the volume was asked
-pub refuses_commit : (ledger : Ledger) (book : Book) (moment : ℤ) (fault : CommitFault) → Shows ledger book → HasNoRoom (body_of ledger) fault → Commits book (next_commit book moment) (Err fault) ledger
-refuses_commit ledger book moment (CommitTooLarge bytes) shows none = (no_room ledger book moment bytes shows none.0 none.1, shows)
-refuses_commit ledger book moment OutOfMemory shows none = shows
-refuses_commit ledger book moment (Failed stage) shows none = absurd none
-refuses_commit ledger book moment (Stopped stage) shows none = absurd none
+  module _ (birth : Birth) (groups : List FrameGroup) (next : FrameGroup) where
+    -- the first call only held the group
+    stage_then : (stage : ℕ) → ((c : List ℕ) → g.was_image mid (g.moment old) c → HasLog c birth groups) → LeavesStage birth groups next stage (g.moment mid) (g.was_image new) (g.synced new)
+        → LeavesStage birth groups next stage (g.moment old) (g.was_image new) (g.synced new)
+    stage_then zero first second = left_then (λ c. HasLog c birth groups) first second
+    stage_then (suc zero) first second = left_then (λ c. HasLog c birth groups) first second
+    stage_then (suc (suc stage)) first second = (
+      left_then (HasWithOrWithout birth groups next) (λ c left. inl (first c left)) second.0,
+      (second.1.0, omega (arith, later, second.1.1), second.1.2, second.1.3),
+    )
 
-leaves_refused : (ledger : Ledger) (book : Book) (next : Commit) (fault : CommitFault) (from : ℕ) (was : ℕ → List ℕ → Type 0) (has : ℕ → Type 0) → HasNoRoom (body_of ledger) fault
-    → ((image : List ℕ) → was from image → Stands image book.commits) → Leaves book next (Err fault) from was has
-leaves_refused ledger book next (CommitTooLarge bytes) from was has none all = all
-leaves_refused ledger book next OutOfMemory from was has none all = all
-leaves_refused ledger book next (Failed stage) from was has none all = absurd none
-leaves_refused ledger book next (Stopped stage) from was has none all = absurd none
+    pub failed_then : (stage : ℕ) → ((c : List ℕ) → g.was_image mid (g.moment old) c → HasLog c birth groups)
+        → LeavesWritten birth groups next (Err stage) (g.moment mid) (g.was_image new) (g.synced new)
+        → LeavesGroups birth groups next (Err (faults.Failed stage)) (g.moment old) (g.was_image new) (g.synced new)
+    failed_then stage first second = stage_then stage first second
 
--- Since then each image has the groups of the ledger.
-abbrev pub AllHave : Option (List ℕ) → ℕ → (ℕ → List ℕ → Type 0) → Ledger → Type 0
-AllHave bytes from was ledger = IfSome bytes (λ _. (image : List ℕ) → was from image → HasGroups image ledger.log)
+    pub done_then : (done : Committed) → ((c : List ℕ) → g.was_image mid (g.moment old) c → HasLog c birth groups)
+        → LeavesWritten birth groups next (Ok tt) (g.moment mid) (g.was_image new) (g.synced new) → LeavesGroups birth groups next (Ok done) (g.moment old) (g.was_image new) (g.synced new)
+    done_then done first second = left_then (HasWithOrWithout birth groups next) (λ c left. inl (first c left)) second
 
-pub leaves_as_before : (ledger : Ledger) (book : Book) (next : Commit) (fault : CommitFault) (bytes : Option (List ℕ)) (from : ℕ) (was : ℕ → List ℕ → Type 0) (has : ℕ → Type 0) → Shows ledger book → HasNoRoom (body_of ledger) fault
-    → AllHave bytes from was ledger → IfSome bytes (λ _. Leaves book next (Err fault) from was has)
-leaves_as_before ledger book next fault None from was has shows none have = tt
-leaves_as_before ledger book next fault (Some all) from was has shows none have =
-    leaves_refused ledger book next fault from was has none (λ image left. stands ledger book shows image (have image left))
+-- A held group is written: it is put behind the closed gate, and then the gate is opened.
+module _ {V Spot End : Type 0} (g : Ghosts V Spot End) (old mid new : V) (later : g.moment old ≤ g.moment mid)
+    (time : Elapses (g.moment mid) (g.moment new) (g.was_image mid) (g.was_image new) (g.synced mid) (g.synced new)) (log mid_log : Log) (same : SameLog log mid_log) (groups : List FrameGroup) (next : FrameGroup)
+    (bytes : g.bytes mid ≡ option_map (with_staged log.end next) (g.bytes old)) where
+  -- what holds where the bytes are told in between
+  in_between : (P : Type 0) (all : List ℕ) → g.bytes old ≡ Some all → IfSome (g.bytes mid) (λ _. P) → P
+  in_between P all is holds = mapped_told (g.bytes old) (g.bytes mid) (with_staged log.end next) all is bytes (λ _. P) holds
 
--- since a moment from which there are no more images than now
-pub none_since : (bytes : Option (List ℕ)) (size : ℕ) (is_image : List ℕ → Type 0) (ledger : Ledger) (now : ℕ) (was : ℕ → List ℕ → Type 0) → IsSound bytes size is_image ledger → stage_of ledger ≡ None
-    → ((image : List ℕ) → was now image → is_image image) → AllHave bytes now was ledger
-none_since None size is_image ledger now was sound writes only = tt
-none_since (Some all) size is_image ledger now was sound writes only = λ image left. sound.images writes image (only image left)
+  with_or_without : IfSome (g.bytes old) (λ _. (c : List ℕ) → g.was_image mid (g.moment old) c → HasLog c (birth_of log.birth) groups)
+      → IfSome (g.bytes mid) (λ _. (c : List ℕ) → g.was_image new (g.moment mid) c → HasLog c (birth_of mid_log.birth) groups ⊎ HasLog c (birth_of mid_log.birth) (groups ++ next ∷ []))
+      → IfSome (g.bytes old) (λ _. (c : List ℕ) → g.was_image new (g.moment old) c → HasWithOrWithout (birth_of log.birth) groups next c)
+  with_or_without first second =
+      all_told (g.bytes old) (λ _. (c : List ℕ) → g.was_image new (g.moment old) c → HasWithOrWithout (birth_of log.birth) groups next c)
+      (λ all is.
+      let before : (c : List ℕ) → g.was_image mid (g.moment old) c → HasLog c (birth_of log.birth) groups =
+      subst (λ (b : Option (List ℕ)). IfSome b (λ _. (c : List ℕ) → g.was_image mid (g.moment old) c → HasLog c (birth_of log.birth) groups)) is first in
+      let during = in_between ((c : List ℕ) → g.was_image new (g.moment mid) c → HasLog c (birth_of mid_log.birth) groups ⊎ HasLog c (birth_of mid_log.birth) (groups ++ next ∷ [])) all is second in
+      left_then g old mid new later time (HasWithOrWithout (birth_of log.birth) groups next) (λ c left. inl (before c left))
+      (subst (λ (b : Names). (c : List ℕ) → g.was_image new (g.moment mid) c → HasLog c (birth_of b) groups ⊎ HasLog c (birth_of b) (groups ++ next ∷ [])) same.birth during))
 
--- what has the groups of the ledger has all that it has
-pub all_of : (ledger : Ledger) (image : List ℕ) → HasGroups image ledger.log → HasAll ledger image
-all_of ledger image has = ([], subst (λ (groups : List Group). HasGroups image groups) (sym (append-nil ledger.log)) has)
+  pub written_done : IfSome (g.bytes old) (λ _. (c : List ℕ) → g.was_image mid (g.moment old) c → HasLog c (birth_of log.birth) groups)
+      → IfSome (g.bytes mid) (λ _. (c : List ℕ) → g.was_image new (g.moment mid) c → HasLog c (birth_of mid_log.birth) groups ⊎ HasLog c (birth_of mid_log.birth) (groups ++ next ∷ []))
+      → IfSome (g.bytes old) (λ _. LeavesWritten (birth_of log.birth) groups next (Ok tt) (g.moment old) (g.was_image new) (g.synced new))
+  written_done first second = with_or_without first second
 
-pub hold_since : (bytes : Option (List ℕ)) (now : ℕ) (was : ℕ → List ℕ → Type 0) (ledger : Ledger) → AllHave bytes now was ledger → HoldAll bytes (was now) ledger
-hold_since None now was ledger have = tt
-hold_since (Some all) now was ledger have = λ image left. all_of ledger image (have image left)
+  pub written_failed : IfSome (g.bytes old) (λ _. Syncs (g.moment old) (g.moment mid) (g.synced old) (g.synced mid))
+      → IfSome (g.bytes old) (λ _. (c : List ℕ) → g.was_image mid (g.moment old) c → HasLog c (birth_of log.birth) groups) → KeepsLog g mid_log mid groups
+      → IfSome (g.bytes mid) (λ _. (c : List ℕ) → g.was_image new (g.moment mid) c → HasLog c (birth_of mid_log.birth) groups ⊎ HasLog c (birth_of mid_log.birth) (groups ++ next ∷ []))
+      → IfSome (g.bytes mid) (λ _. (c : List ℕ) → g.was_image new (g.moment mid) c → HasLog (slice_set c mid_log.end 1) (birth_of mid_log.birth) (groups ++ next ∷ []))
+      → IfSome (g.bytes old) (λ _. LeavesWritten (birth_of log.birth) groups next (Err 2) (g.moment old) (g.was_image new) (g.synced new))
+  written_failed syncs first keeps second opened =
+      all_told (g.bytes old) (λ _. LeavesWritten (birth_of log.birth) groups next (Err 2) (g.moment old) (g.was_image new) (g.synced new))
+      (λ all is.
+      let both : (c : List ℕ) → g.was_image new (g.moment old) c → HasWithOrWithout (birth_of log.birth) groups next c =
+      subst (λ (b : Option (List ℕ)). IfSome b (λ _. (c : List ℕ) → g.was_image new (g.moment old) c → HasWithOrWithout (birth_of log.birth) groups next c)) is (with_or_without first second) in
+      let synced : Syncs (g.moment old) (g.moment mid) (g.synced old) (g.synced mid) = subst (λ (b : Option (List ℕ)). IfSome b (λ _. Syncs (g.moment old) (g.moment mid) (g.synced old) (g.synced mid))) is syncs in
+      let gate_open : (c : List ℕ) → g.was_image new (g.moment mid) c → HasLog (slice_set c mid_log.end 1) (birth_of mid_log.birth) (groups ++ next ∷ []) =
+      in_between ((c : List ℕ) → g.was_image new (g.moment mid) c → HasLog (slice_set c mid_log.end 1) (birth_of mid_log.birth) (groups ++ next ∷ [])) all is opened in
+      let here : (c : List ℕ) → g.was_image new (g.moment mid) c → HasLog (slice_set c (gate_behind groups) 1) (birth_of log.birth) (groups ++ next ∷ []) =
+      subst (λ (n : ℕ). (c : List ℕ) → g.was_image new (g.moment mid) c → HasLog (slice_set c n 1) (birth_of log.birth) (groups ++ next ∷ [])) keeps.is_log.end
+      (subst (λ (b : Names). (c : List ℕ) → g.was_image new (g.moment mid) c → HasLog (slice_set c mid_log.end 1) (birth_of b) (groups ++ next ∷ [])) same.birth gate_open) in
+      (both, kept_since g old mid new later time (λ c. HasLog (slice_set c (gate_behind groups) 1) (birth_of log.birth) (groups ++ next ∷ [])) synced here))
 
-pub with_or_without : (ledger : Ledger) (group : Group) (image : List ℕ) → HasGroups image ledger.log ⊎ HasGroups image (ledger.log ++ group ∷ []) → HasAll ledger image
-with_or_without ledger group image (inl has) = all_of ledger image has
-with_or_without ledger group image (inr has) = (group ∷ [], has)
-
--- ---- a commit that was tried
-
-pub same_group : (ledger : Ledger) (time other : ℤ) (next : ℕ) (body : List ℕ) → other ≡ time → next ≡ next_of ledger → body ≡ body_of ledger
-    → group_of other next body ≡ group_of time (next_of ledger) (body_of ledger)
-same_group ledger time other next body same_time same_next same_body =
-    ap (λ (t : ℤ). group_of t next body) same_time ∙ ap (λ (n : ℕ). group_of time n body) same_next ∙ ap (λ (b : List ℕ). group_of time (next_of ledger) b) same_body
-
--- what follows where the bytes are told
-if_told : (bytes : Option (List ℕ)) (P Q : Type 0) → (P → Q) → IfSome bytes (λ _. P) → IfSome bytes (λ _. Q)
-if_told None P Q follows is = tt
-if_told (Some all) P Q follows is = follows is
-
-both_told : (bytes : Option (List ℕ)) (P Q : Type 0) → IfSome bytes (λ _. P) → IfSome bytes (λ _. Q) → IfSome bytes (λ _. P × Q)
-both_told None P Q one other = tt
-both_told (Some all) P Q one other = (one, other)
-
--- the groups of the ledger, and those with the next one
-abbrev pub OneOf : Ledger → ℤ → List ℕ → Type 0
-OneOf ledger time image = HasGroups image ledger.log ⊎ HasGroups image (ledger.log ++ group_of time (next_of ledger) (body_of ledger) ∷ [])
-
--- Since a sync each image has the next group too, once its gate is opened.
-abbrev pub Opened : Ledger → ℤ → ℕ → (ℕ → List ℕ → Type 0) → (ℕ → Type 0) → Type 0
-Opened ledger time from was has =
-    KeptSince from was has (λ image. HasGroups (slice_set image (end_of ledger.log) 1) (ledger.log ++ group_of time (next_of ledger) (body_of ledger) ∷ []))
-
-pub all_since : (ledger : Ledger) (time : ℤ) (bytes : Option (List ℕ)) (images : List ℕ → Type 0) → IfSome bytes (λ _. (image : List ℕ) → images image → OneOf ledger time image)
-    → HoldAll bytes images ledger
-all_since ledger time bytes images = if_told bytes ((image : List ℕ) → images image → OneOf ledger time image) ((image : List ℕ) → images image → HasAll ledger image)
-    (λ all image is. with_or_without ledger (group_of time (next_of ledger) (body_of ledger)) image (all image is))
-
-module _ (ledger : Ledger) (book : Book) (moment time : ℤ) (bytes : Option (List ℕ)) (from : ℕ) (was : ℕ → List ℕ → Type 0) (has : ℕ → Type 0)
-    (shows : Shows ledger book) (is_time : time ≡ int_max moment (last_group_time first_time ledger.log)) (fits : FitsSigned w64 moment) where
-  one_stands : (image : List ℕ) → OneOf ledger time image → StandsWithOrWithout book (next_commit book moment) image
-  one_stands image (inl without) = inl (stands ledger book shows image without)
-  one_stands image (inr one_more) = inr (stands_with ledger book shows moment time is_time fits image one_more)
-
-  opened_stands : (image : List ℕ) → HasGroups (slice_set image (end_of ledger.log) 1) (ledger.log ++ group_of time (next_of ledger) (body_of ledger) ∷ [])
-      → StandsOnceOpened book.commits (next_commit book moment) image
-  opened_stands image has_next =
-      subst (λ (gate : ℕ). Stands (slice_set image gate 1) (book.commits ++ next_commit book moment ∷ [])) (ap (λ (groups : List Group). end_of groups) shows.groups)
-      (stands_with ledger book shows moment time is_time fits (slice_set image (end_of ledger.log) 1) has_next)
-
-  pub leaves_done : (done : Committed) → IfSome bytes (λ _. (image : List ℕ) → was from image → OneOf ledger time image) → IfSome bytes (λ _. Leaves book (next_commit book moment) (Ok done) from was has)
-  leaves_done done = if_told bytes ((image : List ℕ) → was from image → OneOf ledger time image) (Leaves book (next_commit book moment) (Ok done) from was has) (λ all image left. one_stands image (all image left))
-
-  pub leaves_failed : (stage : ℕ) → (stage ≡ 1) ⊎ (stage ≡ 2) → IfSome bytes (λ _. (image : List ℕ) → was from image → OneOf ledger time image)
-      → (stage ≡ 1 → AllHave bytes from was ledger) → (stage ≡ 2 → IfSome bytes (λ _. Opened ledger time from was has))
-      → IfSome bytes (λ _. Leaves book (next_commit book moment) (Err (Failed stage)) from was has)
-  leaves_failed stage (inl one) during first second =
-      subst (λ (n : ℕ). IfSome bytes (λ _. LeavesFailed book (next_commit book moment) n from was has)) (sym one)
-      (if_told bytes ((image : List ℕ) → was from image → HasGroups image ledger.log) ((image : List ℕ) → was from image → Stands image book.commits)
-      (λ have image left. stands ledger book shows image (have image left)) (first one))
-  leaves_failed stage (inr two) during first second =
-      subst (λ (n : ℕ). IfSome bytes (λ _. LeavesFailed book (next_commit book moment) n from was has)) (sym two)
-      (if_told bytes (((image : List ℕ) → was from image → OneOf ledger time image) × Opened ledger time from was has) (LeavesFailed book (next_commit book moment) 2 from was has)
-      (λ both. (
-        λ image left. one_stands image (both.0 image left),
-        (both.1.0, both.1.1, both.1.2, λ image left. opened_stands image (both.1.3 image left)),
-      ))
-      (both_told bytes ((image : List ℕ) → was from image → OneOf ledger time image) (Opened ledger time from was has) during (second two)))
-
-  pub commits_done : (new : Ledger) (revision : ℕ) → 17 + length (body_of ledger) ≤ group_limit → new.log ≡ ledger.log ++ group_of time (next_of ledger) (body_of ledger) ∷ []
-      → new.draft ≡ None → stage_of new ≡ None → revision ≡ length new.log → Commits book (next_commit book moment) (Ok (record { revision = revision; time = time })) new
-  commits_done new revision small grew none writes count =
-      let longer = ap (λ (groups : List Group). length groups) grew ∙ length-append ledger.log (group_of time (next_of ledger) (body_of ledger) ∷ []) in
-      let before = count_is ledger book shows in (
-        has_room ledger book moment shows small,
-        omega (arith, count, longer, before),
-        time_is ledger book shows moment time is_time fits,
-        shows_with ledger book shows moment time is_time fits new grew none writes,
-      )
-
-  pub commits_failed : (new : Ledger) (stage : ℕ) → 17 + length (body_of ledger) ≤ group_limit → (stage ≡ 1) ⊎ (stage ≡ 2) → new.log ≡ ledger.log
-      → new.draft ≡ None → stage_of new ≡ Some stage → Commits book (next_commit book moment) (Err (Failed stage)) new
-  commits_failed new stage small which same none stops =
-      (has_room ledger book moment shows small, which, shows_failed ledger book shows (next_commit book moment) new stage same none stops)
+-- want of memory leaves the groups as they were
+pub refused_leaves : (birth : Birth) (groups : List FrameGroup) (next : FrameGroup) (r : Result Committed CommitFault) (from : ℕ) (was : ℕ → List ℕ → Type 0) (has : ℕ → Type 0)
+    → IsErrAnd r (λ e. e ≡ faults.OutOfMemory) → ((image : List ℕ) → was from image → HasLog image birth groups) → LeavesGroups birth groups next r from was has
+refused_leaves birth groups next (Ok done) from was has is all = absurd is
+refused_leaves birth groups next (Err fault) from was has is all =
+    subst (λ (f : CommitFault). LeavesGroups birth groups next (Err f) from was has) (sym is) all

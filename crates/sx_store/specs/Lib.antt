@@ -1,9 +1,10 @@
-pub mod Edits
 pub mod Commits
-pub mod Loads
-pub mod Open
+pub mod Damage
+pub mod Drafts
+pub mod Edits
+pub mod Faults
+pub mod Groups
 pub mod Opening
 pub mod Room
 pub mod Shows
 pub mod Sound
-pub mod Texts

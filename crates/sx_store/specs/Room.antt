@@ -1,24 +1,24 @@
--- What the plain log has no room for.
-use Rattle.std.specs.Prelude.{ℕ, ◌≡◌, ◌<◌, ◌+◌, nat_lt, if◌then◌else◌, List, length, None, Some}
-use Rattle.sx_layout.specs.Group.{group_limit}
+-- What the log has no room for.
+use Rattle.std.specs.Prelude.{ℕ, ◌+◌, ◌-◌, List, [], ◌∷◌, length, Option, None, Some, Result, Ok, Err}
+use Rattle.sx_log.specs.Room.{room_for}
+use Rattle.sx_log.specs.declared.fault.RoomFault.{RoomFault}
+use Rattle.sx_log.specs.declared.fault.RoomFault.TheVariants as faults
 use Rattle.sx_model.specs.Commit.{Commit, replay}
 use Rattle.sx_model.specs.State.{empty_document}
-use Rattle.sx_model.specs.TreeText.{document_text}
-use Rattle.sx_run.specs.Run.{Room}
+use Rattle.sx_run.specs.declared.reply.Said.{Said}
 use Rattle.sx_run.specs.declared.reply.Said.TheVariants as said
-use Rattle.sx_store.specs.declared.fault.CommitFault.{CommitFault}
-use Rattle.sx_store.specs.declared.fault.CommitFault.TheVariants as faults
+use Rattle.sx_whole.specs.Stands.{body_size}
 
--- the bytes that the last of these commits takes in the volume, with its gate
-abbrev pub commit_size : List Commit → ℕ
-commit_size commits = 17 + length (document_text (replay commits empty_document).trees)
+-- what is said where there is no room
+abbrev pub said_of : Result ℕ RoomFault → Option Said
+said_of (Ok bytes) = None
+said_of (Err (faults.LogFull frames revisions)) = Some (said.LogFull frames revisions)
+said_of (Err (faults.CommitTooLarge bytes)) = Some (said.CommitTooLarge bytes)
 
-abbrev pub room : Room
-room commits = if nat_lt group_limit (commit_size commits) then Some (said.CommitTooLarge (commit_size commits)) else None
+-- the bytes of the frame of the last of these commits
+abbrev pub frame_size : List Commit → ℕ
+frame_size commits = 5 + body_size (replay commits empty_document)
 
--- a commit of this text is too large, and has so many bytes; or memory ran out
-abbrev pub HasNoRoom : List ℕ → CommitFault → Type 0
-HasNoRoom body (faults.CommitTooLarge bytes) = (bytes ≡ 17 + length body) × (group_limit < bytes)
-HasNoRoom body faults.OutOfMemory = Unit {0}
-HasNoRoom body (faults.Failed stage) = ⊥
-HasNoRoom body (faults.Stopped stage) = ⊥
+-- The reply to a commit that would make these commits, where there is no room for it. Each commit has one frame.
+abbrev pub room : List Commit → Option Said
+room commits = said_of (room_for (length commits - 1) (length commits - 1) (frame_size commits ∷ []))

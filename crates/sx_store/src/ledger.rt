@@ -1,98 +1,72 @@
-ghost use Rattle.std.specs.Prelude.{◌≡◌, ◌≢◌, ◌+◌, ◌≤◌, ◌↔◌, ◌⊎◌, List, ℕ, Some, None, IfSome, IfOk, IfErr, OnOk, OnErr, IsErr, IsErrOf, IsSome, FitsSigned, ℤ, length};
-ghost use Rattle.std.specs.Int.{int_max, w64};
+//! What a writer keeps in memory.
+ghost use Rattle.std.specs.Prelude.{◌≡◌, ◌+◌, ◌≤◌, ◌≢◌, ◌↔◌, ◌<◌, ◌^◌, ℕ, None, Some, IfErr, IfOk, IfSome, IsErrOf, IsSome, OnErr, OnOk, FitsSigned, ℤ, List, length};
 ghost use Rattle.sx_bytes.specs.declared.damage.Damage.{Damage};
-ghost use Rattle.sx_layout.specs.Damage.{IsDamaged};
-ghost use Rattle.sx_layout.specs.Group.{group_limit, last_time};
-ghost use Rattle.sx_layout.specs.Stands.{Stands};
-ghost use Rattle.sx_model.specs.Commit.{Commit, first_time, state_of};
-ghost use Rattle.sx_model.specs.Edit.{edit_of};
-ghost use Rattle.sx_model.specs.LoadDocuments.{IsLoad};
-ghost use Rattle.sx_outside.specs.Clock.{Ticks};
+ghost use Rattle.sx_model.specs.Commit.{state_of};
+ghost use Rattle.sx_model.specs.Edit.{IsEdit, edit_of};
 ghost use Rattle.sx_outside.specs.Faults.{Rose};
-ghost use Rattle.sx_run.specs.Answers.{document_answer};
-ghost use Rattle.sx_run.specs.Run.{Book, book_of, next_commit};
-ghost use Rattle.sx_store.specs.Commits.{Commits, Leaves};
+ghost use Rattle.sx_query.specs.Causes.{IsAboutNode};
+ghost use Rattle.sx_query.specs.Gives.{Gives, IsText};
+ghost use Rattle.sx_reader.specs.Asked.{ExplainsSome, KeepAll};
+ghost use Rattle.sx_run.specs.Run.{Book};
+ghost use Rattle.sx_store.specs.Damage.{IsTakenDamage, IsEditDamage, IsMadeOf, IsQueryDamage, root_at};
 ghost use Rattle.sx_store.specs.Edits.{Edits};
-ghost use Rattle.sx_store.specs.Open.{body_of, next_of};
-ghost use Rattle.sx_store.specs.Opening.{FaultExplains, IsOther, IsSynced, IsUnsynced, TellsOf};
-ghost use Rattle.sx_store.specs.Room.{HasNoRoom};
-ghost use Rattle.sx_store.specs.Shows.{Shows, count_of, stage_of};
-ghost use Rattle.sx_store.specs.Sound.{GrowsFrom, HoldAll, IsReadOf, IsSound};
-ghost use Rattle.sx_store.specs.Texts.{text_of};
-ghost use Rattle.sx_volume.specs.Images.{Elapses};
+ghost use Rattle.sx_store.specs.Shows.{IsDraftOf, Shows, count_of, frames_in, names_in, next_of, stage_of};
+ghost use Rattle.sx_store.specs.Sound.{IsWhole, SameBut, SameDraft};
+ghost use Rattle.sx_tree.specs.declared.query.Query.TheVariants as queries;
 
-use crate::answer::document_answer;
-use crate::fault::{CommitFault, Committed, WriterFault};
-use crate::loads::loaded;
-use std::alloc::{AllocError, Global};
-use sx_outside::Clock;
-use sx_plain::{Log, LogFault};
+use crate::draft::{Draft, draft_of};
+use crate::fault::WriterFault;
+use std::alloc::Global;
+use sx_log::Log;
+use sx_query::About;
+use sx_reader::{Cell, check_frames, read_document};
+use sx_root::RevisionRoot;
 use sx_tree::edit::{Edit, Edited};
-use sx_tree::query::Answer;
-use sx_volume::Volume;
+use sx_tree::query::{Answer, Query};
+use sx_view::{Fault, QueryFault};
+use sx_volume::{ReadEnd, Spot};
 
-/// Bytes that a commit takes in the volume beside its text, with its gate.
-const LEAST_COMMIT: u64 = 17;
-
-/// The greatest length of a commit with its gate, in bytes.
-const COMMIT_LIMIT: u64 = 268_435_456;
-
-/// The document with the open edits applied.
+/// What a writer keeps in memory: the log, where each of its frames is read, the draft where edits are open, and the stage at which a
+/// commit failed.
 #[derive(Drop)]
-pub(crate) struct Draft {
-    /// Its canonical text, which is empty where it has no child.
-    pub(crate) body: Vec<u8>,
-    /// The number that the next new node takes.
-    pub(crate) next: u32,
-}
-
-/// What a writer keeps in memory: the commits, the draft where edits are open, and the stage at which a commit failed.
-#[derive(Drop)]
-pub struct Ledger {
+pub struct Ledger<S> {
     pub(crate) log: Log,
+    pub(crate) cells: Vec<Cell<S>>,
     pub(crate) draft: Option<Draft>,
     pub(crate) stopped: Option<u8>,
 }
 
-/// Opens the store of a volume: it syncs, and reads the commits.
-///
-/// # Errors
-///
-/// `Damaged` for the first group that breaks a rule, `Failed` only where a call of the volume failed, `OutOfMemory`.
-pub fn open_one<V: Volume>(alloc: Global, volume: &mut V) -> Result<Ledger, LogFault>
-    ensures reads { IfOk result (λ ledger. IfSome (V.bytes volume.old) (λ image. IsReadOf image ledger)) }
-    ensures shows { IfOk result (λ ledger. (image : List ℕ) (commits : List Commit) → V.bytes volume.old ≡ Some image → Stands image commits → Shows ledger (book_of commits)) }
-    ensures writes { IfOk result (λ ledger. stage_of ledger ≡ None) }
-    ensures undamaged { (image : List ℕ) (commits : List Commit) → V.bytes volume.old ≡ Some image → Stands image commits → IfErr result IsOther }
-    ensures damaged { IfErr result (FaultExplains (V.bytes volume.old)) }
-    ensures exactly { (image : List ℕ) (damage : Damage) → V.bytes volume.old ≡ Some image → IsDamaged image damage → IsErr result × IfErr result (TellsOf damage) }
+/// The root of revision 0, which is not stored.
+const FIRST_ROOT: RevisionRoot = RevisionRoot {
+    revision: 0,
+    time: i64::MIN,
+    first_frame: 0,
+    frames: 0,
+    node_root: 0,
+    path_root: 0,
+    next: 1,
+    nodes: 1,
+    paths: 0,
+    body: 0,
+};
 
-    ensures sound { IfOk result (λ ledger. IsSound (V.bytes volume.new) (V.size volume.new) (V.is_image volume.new) ledger) }
-    ensures told { IsSome (V.bytes volume.old) → IsSome (V.bytes volume.new) }
-    ensures nothing_done { IfErr result (λ fault. fault ≢ LogFault.Failed → (V.bytes volume.new ≡ V.bytes volume.old) × (V.size volume.new ≡ V.size volume.old)) }
-    ensures synced { OnOk result (IfSome (V.bytes volume.old) (λ image. IsSynced image (V.moment volume.old) (V.moment volume.new) (V.is_image volume.old) (V.was_image volume.new) (V.synced volume.old) (V.synced volume.new))) }
-    ensures synced_or_not { OnErr result (IfSome (V.bytes volume.old) (λ image. IsSynced image (V.moment volume.old) (V.moment volume.new) (V.is_image volume.old) (V.was_image volume.new) (V.synced volume.old) (V.synced volume.new)
-        ⊎ IsUnsynced (V.moment volume.old) (V.is_image volume.old) (V.was_image volume.new) (V.synced volume.old) (V.synced volume.new))) }
-    ensures time { Elapses (V.moment volume.old) (V.moment volume.new) (V.was_image volume.old) (V.was_image volume.new) (V.synced volume.old) (V.synced volume.new) }
-    ensures cause { IsErrOf result LogFault.Failed → Rose (V.faults volume.old) (V.faults volume.new) }
-    ensures no_fault { (IsErrOf result LogFault.Failed → ⊥) → V.faults volume.new ≡ V.faults volume.old }
-    ensures never_falls { V.faults volume.old ≤ V.faults volume.new }
-{
-    let log = sx_plain::open(alloc, volume)?;
-    Ok(Ledger {
-        log,
-        draft: None,
-        stopped: None,
-    })
-}
-
-impl Ledger {
+impl<S: Spot> Ledger<S> {
     /// How many commits there are.
     pub fn count(&self) -> u32
+        requires whole { IsWhole S.Spot self.now }
         ensures count { result ≡ count_of self.now }
-        ensures shown { (book : Book) → Shows self.now book → result ≡ length book.commits }
+        ensures shown { (book : Book) → Shows S.Spot self.now book → result ≡ length book.commits }
     {
-        self.log.count()
+        self.log.groups.as_slice().len() as u32
+    }
+
+    /// How many frames they have together.
+    pub fn frames(&self) -> u32
+        requires whole { IsWhole S.Spot self.now }
+        ensures frames { result ≡ frames_in self.now }
+        ensures shown { (book : Book) → Shows S.Spot self.now book → result ≡ length book.commits }
+    {
+        self.cells.len() as u32
     }
 
     /// The stage in which a commit failed, where one did.
@@ -102,164 +76,135 @@ impl Ledger {
         self.stopped
     }
 
+    /// Answers a question about a revision up to the last one. The end makes at most one read.
+    ///
+    /// # Errors
+    ///
+    /// `NoNode` and `NoPath` where the question names a node or path that is not there; `Failed` only where the end's faults rose;
+    /// `Damaged` by the first rule that the revision's frame breaks, or by the rule that its records break; never where the ledger shows
+    /// commits. `OutOfMemory`. `Missing` never comes.
+    pub fn answer<E: ReadEnd<Spot = S>>(
+        &self,
+        alloc: Global,
+        end: &mut E,
+        revision: u32,
+        query: &Query,
+    ) -> Result<Answer, QueryFault>
+        requires whole { IsWhole S.Spot self.now }
+        requires there { revision ≤ count_of self.now }
+        ensures answers { E.tells end.old → (book : Book) → Shows S.Spot self.now book
+            → Gives (names_in self.now) (state_of book.commits revision) query.now result }
+        ensures texts { (node : ℕ) → query.now ≡ queries.Text node → IfOk result IsText }
+        ensures no_node { (node : ℕ) → IsErrOf result (QueryFault.NoNode node) → IsAboutNode query.now node }
+        ensures no_path { (path : ℕ) → IsErrOf result (QueryFault.NoPath path) → query.now ≡ queries.Path path }
+        ensures never_missing { (asked seen : ℕ) → IsErrOf result (QueryFault.Missing asked seen) → ⊥ }
+        ensures failed { IsErrOf result QueryFault.Failed → Rose (E.faults end.old) (E.faults end.new) }
+        ensures damaged { (damage : Damage) → IsErrOf result (QueryFault.Damaged damage)
+            → IsQueryDamage S.Spot (E.tells end.old) self.now (root_at self.now revision) query.now damage }
+        ensures one_read { E.reads end.new ≤ E.reads end.old + 1 }
+        ensures goes_on_telling { E.tells end.old → E.tells end.new }
+        ensures never_falls { E.faults end.old ≤ E.faults end.new }
+    {
+        let root = self.root(revision);
+        let mut document = read_document(alloc, end, &self.cells, root.node_root)?;
+        let about = About {
+            nodes: root.nodes,
+            paths: root.paths,
+            from: &self.log.birth.from,
+            to: &self.log.birth.to,
+        };
+        sx_query::ask(
+            alloc,
+            &mut document.nodes,
+            &mut document.paths,
+            &about,
+            query,
+        )
+    }
+
+    /// Checks all frames: of the frame to which the node root of its group leads a whole document is asked, and of each other frame no
+    /// more than that it is a frame of one.
+    ///
+    /// # Errors
+    ///
+    /// `Failed` only where the end's faults rose; `Damaged` by the first rule that some frame breaks, with its place: rule 1 where its
+    /// digest is another one, rule 17 where its length is, rule 16 where it holds no whole document, rules 20 and 21 where its body is that
+    /// of no document; never where the ledger shows commits. `OutOfMemory`.
+    pub fn check<E: ReadEnd<Spot = S>>(&self, alloc: Global, end: &mut E) -> Result<(), Fault>
+        requires whole { IsWhole S.Spot self.now }
+        ensures kept { OnOk result (E.tells end.old → KeepAll S.Spot self.now.log self.now.cells.items) }
+        ensures explains { IfErr result (ExplainsSome S.Spot (E.tells end.old) (Rose (E.faults end.old) (E.faults end.new)) self.now.log self.now.cells.items) }
+        ensures undamaged { E.tells end.old → (book : Book) → Shows S.Spot self.now book → (damage : Damage) → IsErrOf result (Fault.Damaged damage) → ⊥ }
+        ensures goes_on_telling { E.tells end.old → E.tells end.new }
+        ensures never_falls { E.faults end.old ≤ E.faults end.new }
+    {
+        check_frames(alloc, end, &self.log, &self.cells)
+    }
+
     /// Takes an edit, as the writer does.
-    pub(crate) fn edit(&mut self, alloc: Global, edit: &Edit) -> Result<Edited, WriterFault>
-        requires load { IsLoad (edit_of edit.now) }
-        ensures edited { (book : Book) → Shows self.old book → stage_of self.old ≡ None → Edits book (edit_of edit.now) result self.new }
+    pub(crate) fn edit<E: ReadEnd<Spot = S>>(
+        &mut self,
+        alloc: Global,
+        end: &mut E,
+        edit: &Edit,
+    ) -> Result<Edited, WriterFault>
+        requires whole { IsWhole S.Spot self.old }
+        requires within { IsEdit (edit_of edit.now) }
+        ensures edited { E.tells end.old → (book : Book) → Shows S.Spot self.old book → stage_of self.old ≡ None
+            → Edits S.Spot book (edit_of edit.now) result self.new }
         ensures stopped { (stage : ℕ) → IsErrOf result (WriterFault.Stopped stage) ↔ (stage_of self.old ≡ Some stage) }
-        ensures refused { OnErr result (self.new ≡ self.old) }
-        ensures same_log { self.new.log ≡ self.old.log }
-        ensures same_stage { stage_of self.new ≡ stage_of self.old }
+        ensures failed { IsErrOf result WriterFault.Failed → Rose (E.faults end.old) (E.faults end.new) }
+        ensures damaged { (damage : Damage) → IsErrOf result (WriterFault.Damaged damage)
+            → IsEditDamage S.Spot (E.tells end.old) (edit_of edit.now) self.old.draft self.old damage }
+        ensures refused { OnErr result (SameDraft self.old self.new) }
+        ensures same_stopped { (stage : ℕ) → stage_of self.old ≡ Some stage → self.new ≡ self.old }
+        ensures same { SameBut self.old self.new }
+        ensures one_read { E.reads end.new ≤ E.reads end.old + 1 }
+        ensures goes_on_telling { E.tells end.old → E.tells end.new }
+        ensures never_falls { E.faults end.old ≤ E.faults end.new }
     {
         if let Some(stage) = self.stopped {
             return Err(WriterFault::Stopped { stage });
         }
-        let Edit::Load { value } = edit else {
-            unreachable!("the edit is a load");
-        };
-        let first = self.next();
-        let draft = loaded(alloc, value, first)?;
-        let next = draft.next;
+        let mut draft = self.take_draft(alloc, end)?;
+        let edited = draft.apply(alloc, edit);
         self.draft = Some(draft);
-        Ok(Edited {
-            first: Some(first),
-            next,
-        })
+        Ok(edited?)
     }
 
-    /// Commits the open edits, as the writer does.
-    pub(crate) fn commit<V: Volume, C: Clock>(
+    // The draft, which is made of the last revision where no edit is open.
+    pub(crate) fn take_draft<E: ReadEnd<Spot = S>>(
         &mut self,
         alloc: Global,
-        volume: &mut V,
-        clock: &mut C,
-    ) -> Result<Committed, CommitFault>
-        requires sound { IsSound (V.bytes volume.old) (V.size volume.old) (V.is_image volume.old) self.old }
-        ensures sound { IsSound (V.bytes volume.new) (V.size volume.new) (V.is_image volume.new) self.new }
-        ensures commits { (book : Book) → Shows self.old book → stage_of self.old ≡ None
-            → (moment : ℤ) × FitsSigned w64 moment × Ticks (C.moments clock.old) moment (C.moments clock.new)
-            × Commits book (next_commit book moment) result self.new
-            × IfSome (V.bytes volume.old) (λ _. Leaves book (next_commit book moment) result (V.moment volume.old) (V.was_image volume.new) (V.synced volume.new)) }
-        ensures goes_on { OnOk result (stage_of self.new ≡ None) }
-        ensures fails { (stage : ℕ) → IsErrOf result (CommitFault.Failed stage) → stage_of self.new ≡ Some stage }
-        ensures stopped { (stage : ℕ) → IsErrOf result (CommitFault.Stopped stage) ↔ (stage_of self.old ≡ Some stage) }
-        ensures same_clock { (stage : ℕ) → stage_of self.old ≡ Some stage → C.moments clock.new ≡ C.moments clock.old }
-        ensures same_volume { (stage : ℕ) → stage_of self.old ≡ Some stage → volume.new ≡ volume.old }
-        ensures same_ledger { IfErr result (λ fault. ((stage : ℕ) → fault ≡ CommitFault.Failed stage → ⊥) → self.new ≡ self.old) }
-        ensures same_bytes { IfErr result (λ fault. ((stage : ℕ) → fault ≡ CommitFault.Failed stage → ⊥) → V.bytes volume.new ≡ V.bytes volume.old) }
-        ensures grows { GrowsFrom self.old self.new }
-        ensures keeps { stage_of self.old ≡ None → HoldAll (V.bytes volume.old) (V.was_image volume.new (V.moment volume.old)) self.old }
-        ensures told { IsSome (V.bytes volume.old) → IsSome (V.bytes volume.new) }
-        ensures time { Elapses (V.moment volume.old) (V.moment volume.new) (V.was_image volume.old) (V.was_image volume.new) (V.synced volume.old) (V.synced volume.new) }
-        ensures cause { IfErr result (λ fault. (stage : ℕ) → fault ≡ CommitFault.Failed stage → Rose (V.faults volume.old) (V.faults volume.new)) }
-        ensures no_fault { ((stage : ℕ) → IsErrOf result (CommitFault.Failed stage) → ⊥) → V.faults volume.new ≡ V.faults volume.old }
-        ensures never_falls { V.faults volume.old ≤ V.faults volume.new }
+        end: &mut E,
+    ) -> Result<Draft, Fault>
+        requires whole { IsWhole S.Spot self.old }
+        ensures shown { E.tells end.old → (book : Book) → Shows S.Spot self.old book → IfOk result (IsDraftOf book) }
+        ensures undamaged { E.tells end.old → (book : Book) → Shows S.Spot self.old book → (damage : Damage) → IsErrOf result (Fault.Damaged damage) → ⊥ }
+        ensures made { IfOk result (IsMadeOf S.Spot (E.tells end.old) self.old) }
+        ensures next { IfOk result (λ draft. draft.next ≡ next_of self.old) }
+        ensures failed { IsErrOf result Fault.Failed → Rose (E.faults end.old) (E.faults end.new) }
+        ensures damaged { (damage : Damage) → IsErrOf result (Fault.Damaged damage) → IsTakenDamage S.Spot (E.tells end.old) self.old.draft self.old damage }
+        ensures same { SameBut self.old self.new }
+        ensures refused { OnErr result (self.new ≡ self.old) }
+        ensures one_read { E.reads end.new ≤ E.reads end.old + 1 }
+        ensures goes_on_telling { E.tells end.old → E.tells end.new }
+        ensures never_falls { E.faults end.old ≤ E.faults end.new }
     {
-        if let Some(stage) = self.stopped {
-            return Err(CommitFault::Stopped { stage });
-        }
-        let time = clock.now().max(self.log.last_time());
-        let body = self.commit_body(alloc)?;
-        self.add(alloc, volume, time, body)
-    }
-
-    // Makes the open edits a revision of this time. The document's text with them is given.
-    fn add<V: Volume>(
-        &mut self,
-        alloc: Global,
-        volume: &mut V,
-        time: i64,
-        body: Vec<u8>,
-    ) -> Result<Committed, CommitFault>
-        requires sound { IsSound (V.bytes volume.old) (V.size volume.old) (V.is_image volume.old) self.old }
-        requires writes { stage_of self.old ≡ None }
-        requires body { body.items ≡ body_of self.old }
-        requires small { 17 + length body.items ≤ group_limit }
-        ensures sound { IsSound (V.bytes volume.new) (V.size volume.new) (V.is_image volume.new) self.new }
-        ensures commits { (book : Book) (moment : ℤ) → Shows self.old book → FitsSigned w64 moment → time ≡ int_max moment (last_time first_time self.old.log)
-            → Commits book (next_commit book moment) result self.new
-            × IfSome (V.bytes volume.old) (λ _. Leaves book (next_commit book moment) result (V.moment volume.old) (V.was_image volume.new) (V.synced volume.new)) }
-        ensures goes_on { OnOk result (stage_of self.new ≡ None) }
-        ensures fails { (stage : ℕ) → IsErrOf result (CommitFault.Failed stage) → stage_of self.new ≡ Some stage }
-        ensures writes { (stage : ℕ) → IsErrOf result (CommitFault.Stopped stage) → ⊥ }
-        ensures same_ledger { IfErr result (λ fault. ((stage : ℕ) → fault ≡ CommitFault.Failed stage → ⊥) → self.new ≡ self.old) }
-        ensures same_bytes { IfErr result (λ fault. ((stage : ℕ) → fault ≡ CommitFault.Failed stage → ⊥) → V.bytes volume.new ≡ V.bytes volume.old) }
-        ensures grows { GrowsFrom self.old self.new }
-        ensures keeps { HoldAll (V.bytes volume.old) (V.was_image volume.new (V.moment volume.old)) self.old }
-        ensures told { IsSome (V.bytes volume.old) → IsSome (V.bytes volume.new) }
-        ensures time { Elapses (V.moment volume.old) (V.moment volume.new) (V.was_image volume.old) (V.was_image volume.new) (V.synced volume.old) (V.synced volume.new) }
-        ensures cause { IfErr result (λ fault. (stage : ℕ) → fault ≡ CommitFault.Failed stage → Rose (V.faults volume.old) (V.faults volume.new)) }
-        ensures no_fault { ((stage : ℕ) → IsErrOf result (CommitFault.Failed stage) → ⊥) → V.faults volume.new ≡ V.faults volume.old }
-        ensures never_falls { V.faults volume.old ≤ V.faults volume.new }
-    {
-        let next = self.next();
-        match self.log.commit(alloc, volume, time, next, body) {
-            Ok(()) => {
-                self.draft = None;
-                Ok(Committed {
-                    revision: self.log.count(),
-                    time,
-                })
-            }
-            Err(sx_plain::CommitFault::OutOfMemory) => Err(CommitFault::OutOfMemory),
-            Err(sx_plain::CommitFault::Failed { stage }) => {
-                self.draft = None;
-                self.stopped = Some(stage);
-                Err(CommitFault::Failed { stage })
-            }
+        match self.draft.take() {
+            Some(draft) => Ok(draft),
+            None => draft_of(alloc, end, &self.cells, &self.root(self.count())),
         }
     }
 
-    // The text of the document with the open edits, for a commit that has room.
-    fn commit_body(&self, alloc: Global) -> Result<Vec<u8>, CommitFault>
-        ensures body { IfOk result (λ body. body.items ≡ body_of self.now) }
-        ensures small { IfOk result (λ body. 17 + length body.items ≤ group_limit) }
-        ensures refused { IfErr result (HasNoRoom (body_of self.now)) }
-    {
-        let body = self.body();
-        let bytes = LEAST_COMMIT + body.len() as u64;
-        if bytes > COMMIT_LIMIT {
-            return Err(CommitFault::CommitTooLarge { bytes });
-        }
-        Ok(body.to_vec(alloc)?)
-    }
-
-    /// Answers a question for the text of the document at a revision up to the last one.
-    pub(crate) fn answer(&self, alloc: Global, revision: u32) -> Result<Answer, AllocError>
-        requires { revision ≤ count_of self.now }
-        ensures { IfOk result (λ answer. (book : Book) → Shows self.now book → answer ≡ document_answer (state_of book.commits revision).trees) }
-    {
-        document_answer(alloc, self.text(revision))
-    }
-
-    // The text of the document with the open edits.
-    fn body(&self) -> &[u8]
-        ensures { result.now ≡ body_of self.now }
-    {
-        match &self.draft {
-            Some(draft) => &draft.body,
-            None => self.text(self.log.count()),
-        }
-    }
-
-    // The number that the next new node takes.
-    fn next(&self) -> u32
-        ensures { result ≡ next_of self.now }
-    {
-        match &self.draft {
-            Some(draft) => draft.next,
-            None => self.log.last_next(),
-        }
-    }
-
-    // The text of a revision up to the last one.
-    fn text(&self, revision: u32) -> &[u8]
-        requires { revision ≤ count_of self.now }
-        ensures { result.now ≡ text_of revision self.now.log }
+    // The root of a revision up to the last one.
+    pub(crate) fn root(&self, revision: u32) -> RevisionRoot
+        requires there { revision ≤ count_of self.now }
+        ensures root { result ≡ root_at self.now revision }
     {
         match revision {
-            0 => &[],
-            _ => self.log.body(revision as usize - 1),
+            0 => FIRST_ROOT,
+            _ => self.log.groups.as_slice()[revision as usize - 1].root,
         }
     }
 }

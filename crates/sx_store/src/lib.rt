@@ -1,16 +1,20 @@
 //! The store: the one crate below the shell that knows how commits are kept.
 //!
-//! A writer takes edits and commits them, and answers questions about every revision. Here the commits stand in the plain
-//! log, a group each, whose body is the document's canonical text.
+//! A writer takes edits and commits them, and answers questions about every revision. A commit is one group of the log with one
+//! frame, which holds the whole document.
 #![tactic(auto)]
 
-mod answer;
+mod commit;
+mod draft;
 mod fault;
+mod group;
 mod ledger;
-mod loads;
+mod opening;
 mod writer;
 
 pub use fault::{CommitFault, Committed, WriterFault};
-pub use ledger::{Ledger, open_one};
-pub use sx_plain::LogFault;
+pub use ledger::Ledger;
+pub use opening::open_one;
+pub use sx_log::LogFault;
+pub use sx_view::{Fault as CheckFault, QueryFault};
 pub use writer::Writer;

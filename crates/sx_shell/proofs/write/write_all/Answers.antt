@@ -1,4 +1,4 @@
-use Rattle.std.proofs.Common.{◌≡◌, ◌∙◌, ◌++◌, List, ℕ, Option, None, Some, IfSome, ap, sym, subst, append_assoc, arith}
+use Rattle.std.proofs.Common.{◌≡◌, ◌∙◌, ◌++◌, List, ℕ, Option, None, Some, IfSome, ap, sym, subst, append_assoc}
 use Rattle.sx_outside.specs.Transfer.{Gains}
 use Rattle.sx_shell.proofs.write.write_all.Goals as goal
 
