@@ -14,7 +14,7 @@ def sha(data):
 
 def newborn():
     name = lambda text: bytes([len(text)]) + text.ljust(64, b"\0")
-    fields = b"SXSNAP01\x01\x03" + name(b"validFrom") + name(b"validTo")
+    fields = b"SXSNAP01\x00\x03" + name(b"validFrom") + name(b"validTo")
     return b"\x01" + fields + sha(fields) + b"\0"
 
 

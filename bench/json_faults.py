@@ -265,4 +265,5 @@ def main():
         out.write("".join(Text(text).answer() + "\n" for text in texts))
 
 
-main()
+if __name__ == "__main__":
+    main()

@@ -78,6 +78,7 @@ def main():
     chance = random.Random(int(sys.argv[4]) if len(sys.argv) > 4 else 1)
     path, replies = folder / "killed.sirix", folder / "replies"
     path.unlink(missing_ok=True)
+    subprocess.run([program, "create", path], check=True)
     kept, answered, unanswered = [], 0, 0
     for number in range(1, runs + 1):
         first = len(kept) + 1

@@ -9,7 +9,8 @@ works on a new file in the folder:
 - a document of some 8 million bytes is loaded, committed and asked for, beside a document of one number in its place. One
   document has small objects, and one has strings of 1,000 bytes;
 - 10,000 commits of small documents, beside 10,000 commits of one number each;
-- the volume of the 10,000 small documents is opened, and its last document asked for.
+- the volume of the 10,000 small documents is opened, and its last document asked for;
+- of a document of 100,000 nodes one scalar is set and committed, 10 times.
 
 The replies are checked: a run whose replies are others counts for nothing.
 """
@@ -83,6 +84,7 @@ def row(name, program, path, script, replies, times, anew=True):
     for _ in range(times):
         if anew:
             path.unlink(missing_ok=True)
+            subprocess.run([program, "create", path], check=True)
         spent, most = measured(program, path, source, replies)
         seconds.append(spent)
         memory.append(most)
@@ -110,6 +112,10 @@ def main():
         row(name, program, folder / file, script, lambda lines: len(lines) == 2 * COMMITS and lines[-1].split()[1] == str(COMMITS), times)
     wanted = [f"ok {COMMITS}", f"ok {small_document(COMMITS - 1)}"]
     row("opening these", program, folder / "small.sirix", "open latest\ntext 0\n", lambda lines: lines == wanted, times, anew=False)
+
+    items = ",".join(str(n) for n in range(99_998))
+    script = f"load [{items}]\ncommit\n" + "".join(f"set 2 {n}\ncommit\n" for n in range(10)) + "open latest\nnode 2\n"
+    row("10 scalars set in 100,000 nodes", program, folder / "scalars.sirix", script, lambda lines: lines[-1].split()[-1] == "9", times)
 
 
 if __name__ == "__main__":

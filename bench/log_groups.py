@@ -8,7 +8,7 @@ import sys
 
 
 def birth_part():
-    fields = b"SXSNAP01" + bytes([1, 3])
+    fields = b"SXSNAP01" + bytes([0, 1])
     for name in (b"validFrom", b"validTo"):
         fields += bytes([len(name)]) + name.ljust(64, b"\0")
     return fields + hashlib.sha256(fields).digest()
