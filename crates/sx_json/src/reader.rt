@@ -119,11 +119,12 @@ fn add_member(
     }
 }
 
-/// An object of these members.
-fn object_of(members: Members) -> Json
+/// An object of these members, which keeps no more room than they take.
+fn object_of(mut members: Members) -> Json
     ensures same { result ≡ Json.Object members }
     ensures distinct { AreDistinct (names_of members) }
 {
+    members.shrink_to_fit();
     let _names = members.names();
     Json::Object(members)
 }

@@ -3,5 +3,6 @@ pub mod NumberFronts
 pub mod NumberBytes
 pub mod NumberTexts
 pub mod NameLists
+pub mod AscendingNames
 pub mod MemberLists
 pub mod ValueTrees

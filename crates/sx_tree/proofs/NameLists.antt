@@ -1,10 +1,10 @@
 -- What an index of names keeps, from name to name.
-use Rattle.std.proofs.Common.{◌≡◌, ℕ, zero, suc, ◌⊎◌, inl, inr, List, [], ◌∷◌, ◌++◌, refl, ap, sym, ◌∙◌, subst, length, Bool, cond, true, false, Some, Contains, slice_get}
+use Rattle.std.proofs.Common.{◌≡◌, ℕ, zero, suc, ◌⊎◌, inl, inr, List, [], ◌∷◌, ◌++◌, refl, ap, sym, ◌∙◌, subst, length, Bool, cond, true, false, Option, None, Some, IfNone, IfSome, Contains, slice_get, take, ◌<◌, arith}
 use Rattle.std.proofs.lemmas.Option.{slice_get_within, get_or_from_slice_get, slice_get-get_or}
 use Rattle.std.proofs.lemmas.Slice.Eq.{bytes_eq-Decides}
 use Rattle.std.specs.BTreeMap.{BTreeMap}
 use Rattle.std.specs.Str.{bytes_eq}
-use Rattle.sx_tree.specs.Names.{AreIndexed, place_in}
+use Rattle.sx_tree.specs.Names.{AreDistinct, AreIndexed, place_in}
 
 pub slice_get-Contains : (names : List (List ℕ)) (name : List ℕ) → Contains names name → (i : ℕ) × (slice_get names i ≡ Some name)
 slice_get-Contains names name has = (has.0, slice_get-get_or names has.0 name has.1 ∙ ap Some has.2)
@@ -12,7 +12,35 @@ slice_get-Contains names name has = (has.0, slice_get-get_or names has.0 name ha
 pub Contains-slice_get : (names : List (List ℕ)) (name : List ℕ) (i : ℕ) → slice_get names i ≡ Some name → Contains names name
 Contains-slice_get names name i e = (i, slice_get_within names i name e, get_or_from_slice_get names i name name e)
 
-slice_get-push : (names : List (List ℕ)) (new name : List ℕ) (i : ℕ) → slice_get (names ++ new ∷ []) i ≡ Some name → (slice_get names i ≡ Some name) ⊎ ((i ≡ length names) × (new ≡ name))
+-- what is entered where a name is new is entered
+pub entered_new : {P : Type 0} (names : List (List ℕ)) (name : List ℕ) (found : Option ℕ) → (Contains names name → ⊥)
+    → IfSome found (λ place. slice_get names place ≡ Some name) → IfNone found P → P
+entered_new names name None new there entered = entered
+entered_new names name (Some place) new there entered = absurd (new (Contains-slice_get names name place there))
+
+-- a name that an index has no place of is none of the names
+pub absent_new : (names : List (List ℕ)) (places : BTreeMap (List ℕ) ℕ) (name : List ℕ) → AreIndexed names places → place_in places name ≡ None → Contains names name → ⊥
+absent_new names places name ix absent has =
+    let there = slice_get-Contains names name has in
+    let found : Some there.0 ≡ None = sym (ix.1 name there.0 there.1) ∙ absent in
+    cc
+
+slice_get-take : (names : List (List ℕ)) (place i : ℕ) (name : List ℕ) → slice_get (take place names) i ≡ Some name → (slice_get names i ≡ Some name) × (i < place)
+slice_get-take [] zero i name e = absurd (cc)
+slice_get-take (first ∷ names) zero i name e = absurd (cc)
+slice_get-take [] (suc place) i name e = absurd (cc)
+slice_get-take (first ∷ names) (suc place) zero name e = (e, omega arith)
+slice_get-take (first ∷ names) (suc place) (suc i) name e = let r = slice_get-take names place i name e in (r.0, omega (arith, r.1))
+
+-- of names of which no two are equal, none stands before itself
+pub comes_behind : (names : List (List ℕ)) (place : ℕ) (name : List ℕ) → AreDistinct names → slice_get names place ≡ Some name → Contains (take place names) name → ⊥
+comes_behind names place name distinct there has =
+    let before = slice_get-Contains (take place names) name has in
+    let earlier = slice_get-take names place before.0 name before.1 in
+    let same : before.0 ≡ place = distinct before.0 place name earlier.0 there in
+    omega (arith, earlier.1, same)
+
+pub slice_get-push : (names : List (List ℕ)) (new name : List ℕ) (i : ℕ) → slice_get (names ++ new ∷ []) i ≡ Some name → (slice_get names i ≡ Some name) ⊎ ((i ≡ length names) × (new ≡ name))
 slice_get-push [] new name zero e = inr (refl, cc)
 slice_get-push [] new name (suc i) e = absurd (cc)
 slice_get-push (first ∷ names) new name zero e = inl e
@@ -27,9 +55,6 @@ slice_get_kept (first ∷ names) new name (suc i) e = slice_get_kept names new n
 slice_get_last : (names : List (List ℕ)) (new : List ℕ) → slice_get (names ++ new ∷ []) (length names) ≡ Some new
 slice_get_last [] new = refl
 slice_get_last (first ∷ names) new = slice_get_last names new
-
-pub AreIndexed-same : (names : List (List ℕ)) (old new : BTreeMap (List ℕ) ℕ) → new.entries ≡ old.entries → AreIndexed names old → AreIndexed names new
-AreIndexed-same names old new e ix = rw e ix
 
 same_or_not : (a b : List ℕ) → ((bytes_eq a b ≡ true) × (a ≡ b)) ⊎ ((bytes_eq a b ≡ false) × (a ≡ b → ⊥))
 same_or_not a b = let d = bytes_eq-Decides a b in by_test (bytes_eq a b) d

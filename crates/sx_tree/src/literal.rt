@@ -74,6 +74,16 @@ impl Literal {
         }
     }
 
+    /// The literal of these bytes, which are a number and no more than 64.
+    pub fn of_number(alloc: Global, bytes: &[u8]) -> Result<Literal, AllocError>
+        requires number { IsNumber bytes.now }
+        requires short { length bytes.now ≤ 64 }
+        ensures { IfOk result (λ literal. literal ≡ bytes.now) }
+    {
+        let bytes = Compact::new(alloc, bytes)?;
+        Ok(Literal { bytes })
+    }
+
     /// The bytes of the number.
     pub fn as_bytes(&self) -> &[u8]
         ensures same { result.now ≡ self.now }

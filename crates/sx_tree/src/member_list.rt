@@ -1,10 +1,11 @@
 //! Values under names of which no two are equal.
-ghost use Rattle.std.specs.Prelude.{◌≡◌, [], ◌∷◌, ◌++◌, Contains, IfErr, IfNone, IfOk, IfSome, OnErr, OnOk, length, map, slice_get};
+ghost use Rattle.std.specs.Prelude.{◌≡◌, ◌^◌, ◌-◌, [], ◌∷◌, ◌++◌, Contains, IfErr, IfNone, IfSome, OnErr, OnOk, map, min, slice_get};
+ghost use Rattle.sx_tree.specs.declared.member_list.MemberFault.TheVariants.{Taken};
 ghost use Rattle.sx_tree.specs.Names.{AreDistinct, names_of};
 
 use crate::named_list::NamedList;
 use crate::text::Text;
-use std::alloc::{AllocError, Global};
+use std::alloc::Global;
 use std::marker::Model;
 use thiserror::Error;
 
@@ -17,6 +18,17 @@ pub enum MemberFault {
     Taken { index: u32 },
     #[error("out of memory")]
     OutOfMemory,
+}
+
+impl MemberFault {
+    /// The fault of a name that the member at this place has.
+    pub(crate) fn taken(place: usize) -> MemberFault
+        ensures { result ≡ Taken (min place (2 ^ 32 - 1)) }
+    {
+        MemberFault::Taken {
+            index: place.min(u32::MAX as usize) as u32,
+        }
+    }
 }
 
 /// Values in the order in which they came, each under a name that no other has.
@@ -100,31 +112,26 @@ impl<T: Drop> MemberList<T> {
         ensures fault { IfErr result (ExplainsMember (names_of self.old) name) }
         ensures err { OnErr result (self.new ≡ self.old) }
     {
-        match self.find(&name) {
-            Some(place) => Err(MemberFault::Taken {
-                index: place.min(u32::MAX as usize) as u32,
-            }),
-            None => match self.push_new(alloc, name, value) {
-                Ok(()) => Ok(()),
-                Err(_) => Err(MemberFault::OutOfMemory),
-            },
-        }
-    }
-
-    /// Adds a member whose name no other has. A failure changes nothing.
-    fn push_new(&mut self, alloc: Global, name: Text, value: T) -> Result<(), AllocError>
-        requires { Contains (names_of self.old) name → ⊥ }
-        ensures ok { OnOk result (self.new ≡ self.old ++ (name, value) ∷ []) }
-        ensures err { OnErr result (self.new ≡ self.old) }
-    {
         match &mut self.list {
             Some(list) => list.push(alloc, name, value),
             None => {
-                let mut list = Box::new(alloc, NamedList::new(alloc))?;
+                let mut list = match Box::new(alloc, NamedList::new(alloc)) {
+                    Ok(list) => list,
+                    Err(_) => return Err(MemberFault::OutOfMemory),
+                };
                 list.push(alloc, name, value)?;
                 self.list = Some(list);
                 Ok(())
             }
+        }
+    }
+
+    /// Gives back the room that no member takes, once all have come.
+    pub fn shrink_to_fit(&mut self)
+        ensures { self.new ≡ self.old }
+    {
+        if let Some(list) = &mut self.list {
+            list.shrink_to_fit();
         }
     }
 }

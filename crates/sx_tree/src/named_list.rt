@@ -1,10 +1,11 @@
 //! Names and values side by side.
-ghost use Rattle.std.specs.Prelude.{◌≡◌, [], ◌∷◌, ◌++◌, Contains, IfNone, IfSome, OnErr, OnOk, length, map, slice_get};
+ghost use Rattle.std.specs.Prelude.{◌≡◌, [], ◌∷◌, ◌++◌, Contains, IfErr, IfNone, IfSome, OnErr, OnOk, length, map, slice_get};
 ghost use Rattle.sx_tree.specs.Names.{AreDistinct, names_of};
 
+use crate::member_list::MemberFault;
 use crate::names::Names;
 use crate::text::Text;
-use std::alloc::{AllocError, Global};
+use std::alloc::Global;
 use std::marker::Model;
 
 /// Values in the order in which they came, each under a name that no other has.
@@ -63,16 +64,29 @@ impl<T> NamedList<T> {
 }
 
 impl<T: Drop> NamedList<T> {
-    /// Adds a value under a name that no other has. A failure changes nothing.
-    pub(crate) fn push(&mut self, alloc: Global, name: Text, value: T) -> Result<(), AllocError>
-        requires { Contains (names_of self.old) name → ⊥ }
+    ghost use Rattle.sx_tree.specs.MemberFault.{ExplainsMember};
+
+    /// Adds a value under a name that no other has. A fault changes nothing.
+    pub(crate) fn push(&mut self, alloc: Global, name: Text, value: T) -> Result<(), MemberFault>
         ensures ok { OnOk result (self.new ≡ self.old ++ (name, value) ∷ []) }
+        ensures new_name { OnOk result (Contains (names_of self.old) name → ⊥) }
+        ensures fault { IfErr result (ExplainsMember (names_of self.old) name) }
         ensures err { OnErr result (self.new ≡ self.old) }
     {
-        // Grows by an eighth, so that a few leave no room unused.
-        self.values.reserve_exact(self.values.len() / 8 + 1)?;
+        match self.values.reserve(1) {
+            Ok(()) => {}
+            Err(_) => return Err(self.names.fault_of(&name)),
+        }
         self.names.push(alloc, name)?;
         self.values.push_reserved(value);
         Ok(())
+    }
+
+    /// Gives back the room that no name and no value takes.
+    pub(crate) fn shrink_to_fit(&mut self)
+        ensures { self.new ≡ self.old }
+    {
+        self.names.shrink_to_fit();
+        self.values.shrink_to_fit();
     }
 }

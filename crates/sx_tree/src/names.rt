@@ -1,21 +1,34 @@
 //! Names of which no two are equal.
-ghost use Rattle.std.specs.Prelude.{◌≡◌, [], ◌∷◌, ◌++◌, Contains, IfNone, IfOk, IfSome, OnErr, OnOk, length, slice_get};
-ghost use Rattle.sx_tree.specs.Names.{AreDistinct, AreIndexed, IsIndex};
+ghost use Rattle.std.specs.Prelude.{◌≡◌, [], ◌∷◌, ◌++◌, Contains, IfErr, IfNone, IfOk, IfSome, IsTrue, OnErr, OnOk, length, slice_get};
+ghost use Rattle.sx_tree.specs.MemberFault.{ExplainsMember};
+ghost use Rattle.sx_tree.specs.Names.{AreAscending, AreBefore, AreDistinct, AreIndexed, IsIndex};
 
+use crate::member_list::MemberFault;
 use crate::text::Text;
 use std::alloc::{AllocError, Global};
 use std::collections::BTreeMap;
+use std::collections::btree_map::Entry;
 use std::marker::Model;
 
-/// So many names are looked through one after another. Where there are more, an index is kept.
+/// So many names are looked through one after another. Where there are more and they do not ascend, an index is kept.
 const FEW_NAMES: usize = 32;
+
+/// How a name is found.
+#[derive(Drop)]
+enum Index {
+    /// The names ascend by their bytes, and are their own index.
+    Ascending,
+    /// There are few, in any order.
+    Few,
+    /// The place of each name.
+    Places(Box<BTreeMap<Text, usize>>),
+}
 
 /// Names in the order in which they came, of which no two are equal.
 #[derive(Drop)]
 pub(crate) struct Names {
     texts: Vec<Text>,
-    /// The place of each name, where there are many.
-    index: Option<Box<BTreeMap<Text, usize>>>,
+    index: Index,
 }
 
 impl Model for Names {
@@ -35,7 +48,7 @@ impl Names {
     {
         Names {
             texts: Vec::new(alloc),
-            index: None,
+            index: Index::Ascending,
         }
     }
 
@@ -52,22 +65,48 @@ impl Names {
         ensures none { IfNone result (Contains self.now name.now → ⊥) }
     {
         match &self.index {
-            Some(places) => places.get(name).copied(),
-            None => place_of(self.texts.as_slice(), name.as_bytes()),
+            Index::Ascending => place_among(self.texts.as_slice(), name),
+            Index::Few => place_of(self.texts.as_slice(), name.as_bytes()),
+            Index::Places(places) => places.get(name).copied(),
         }
     }
 
-    /// Adds a name that is not there. A failure changes nothing.
-    pub(crate) fn push(&mut self, alloc: Global, name: Text) -> Result<(), AllocError>
-        requires { Contains self.old name → ⊥ }
+    /// Adds a name that is not there. A fault changes nothing.
+    pub(crate) fn push(&mut self, alloc: Global, name: Text) -> Result<(), MemberFault>
         ensures ok { OnOk result (self.new ≡ self.old ++ name ∷ []) }
+        ensures new_name { OnOk result (Contains self.old name → ⊥) }
+        ensures fault { IfErr result (ExplainsMember self.old name) }
         ensures err { OnErr result (self.new ≡ self.old) }
     {
-        // Grows by an eighth, so that a few leave no room unused.
-        self.texts.reserve_exact(self.texts.len() / 8 + 1)?;
-        note(alloc, &mut self.index, self.texts.as_slice(), &name)?;
-        self.texts.push_reserved(name);
-        Ok(())
+        match self.texts.reserve(1) {
+            Ok(()) => {}
+            Err(_) => return Err(self.fault_of(&name)),
+        }
+        match note(alloc, &mut self.index, self.texts.as_slice(), &name) {
+            Ok(None) => {
+                self.texts.push_reserved(name);
+                Ok(())
+            }
+            Ok(Some(place)) => Err(MemberFault::taken(place)),
+            Err(_) => Err(self.fault_of(&name)),
+        }
+    }
+
+    /// Why a name is not added where memory runs out: it is there already, or else memory alone is the cause.
+    pub(crate) fn fault_of(&self, name: &Text) -> MemberFault
+        ensures { ExplainsMember self.now name.now result }
+    {
+        match self.find(name) {
+            Some(place) => MemberFault::taken(place),
+            None => MemberFault::OutOfMemory,
+        }
+    }
+
+    /// Gives back the room that no name takes.
+    pub(crate) fn shrink_to_fit(&mut self)
+        ensures { self.new ≡ self.old }
+    {
+        self.texts.shrink_to_fit();
     }
 }
 
@@ -84,29 +123,69 @@ fn place_of(names: &[Text], name: &[u8]) -> Option<usize>
     None
 }
 
-/// Notes the place of a name that comes behind the others, where there are many. A failure notes nothing.
+/// The place of the name among names that ascend.
+fn place_among(names: &[Text], name: &Text) -> Option<usize>
+    requires { AreAscending names.now }
+    ensures found { IfSome result (λ place. slice_get names.now place ≡ Some name.now) }
+    ensures none { IfNone result (Contains names.now name.now → ⊥) }
+{
+    match names.binary_search(name) {
+        Ok(place) => Some(place),
+        Err(_) => None,
+    }
+}
+
+/// Whether each of the names, which ascend, comes before this one.
+fn are_before(names: &[Text], name: &Text) -> bool
+    ensures { IsTrue result → AreAscending names.now → AreBefore names.now name.now }
+{
+    match names.last() {
+        Some(last) => last < name,
+        None => true,
+    }
+}
+
+/// Notes the place of a name that comes behind the others, where there are many. Where one of them is the name, it
+/// gives that one's place and notes nothing. A failure notes nothing.
 fn note(
     alloc: Global,
-    index: &mut Option<Box<BTreeMap<Text, usize>>>,
+    index: &mut Index,
     names: &[Text],
     name: &Text,
-) -> Result<(), AllocError>
+) -> Result<Option<usize>, AllocError>
     requires distinct { AreDistinct names.now }
     requires index { IsIndex names.now index.old }
-    requires new_name { Contains names.now name.now → ⊥ }
-    ensures ok { OnOk result (IsIndex (names.now ++ name.now ∷ []) index.new) }
+    ensures new_name { IfOk result (λ found. IfNone found (Contains names.now name.now → ⊥)) }
+    ensures found { IfOk result (λ found. IfSome found (λ place. slice_get names.now place ≡ Some name.now)) }
+    ensures noted { IfOk result (λ found. IfNone found (IsIndex (names.now ++ name.now ∷ []) index.new)) }
+    ensures kept { IfOk result (λ found. IfSome found (λ _. IsIndex names.now index.new)) }
     ensures err { OnErr result (IsIndex names.now index.new) }
 {
     match index {
-        Some(places) => enter(alloc, places, names, name),
-        None if names.len() < FEW_NAMES => Ok(()),
-        None => {
-            let mut places = index_of(alloc, names)?;
-            enter(alloc, &mut places, names, name)?;
-            *index = Some(Box::new(alloc, places)?);
-            Ok(())
-        }
+        Index::Places(places) => enter(alloc, places, names, name),
+        Index::Ascending if are_before(names, name) => Ok(None),
+        _ => match place_of(names, name.as_bytes()) {
+            Some(place) => Ok(Some(place)),
+            None => {
+                *index = index_with(alloc, names, name)?;
+                Ok(None)
+            }
+        },
     }
+}
+
+/// The index of the names, and of one that comes behind them, in any order.
+fn index_with(alloc: Global, names: &[Text], name: &Text) -> Result<Index, AllocError>
+    requires distinct { AreDistinct names.now }
+    requires new_name { Contains names.now name.now → ⊥ }
+    ensures { IfOk result (λ index. IsIndex (names.now ++ name.now ∷ []) index) }
+{
+    if names.len() < FEW_NAMES {
+        return Ok(Index::Few);
+    }
+    let mut places = index_of(alloc, names)?;
+    enter(alloc, &mut places, names, name)?;
+    Ok(Index::Places(Box::new(alloc, places)?))
 }
 
 /// The place of each of the names.
@@ -121,19 +200,27 @@ fn index_of(alloc: Global, names: &[Text]) -> Result<BTreeMap<Text, usize>, Allo
     Ok(places)
 }
 
-/// Enters the place of a name that comes behind the others. A failure enters nothing.
+/// Enters the place of a name that comes behind the others. Where one of them is the name, it gives that one's place
+/// and enters nothing. A failure enters nothing.
 fn enter(
     alloc: Global,
     places: &mut BTreeMap<Text, usize>,
     names: &[Text],
     name: &Text,
-) -> Result<(), AllocError>
-    requires indexed { AreIndexed names.now places.old }
-    requires new_name { Contains names.now name.now → ⊥ }
-    ensures ok { OnOk result (AreIndexed (names.now ++ name.now ∷ []) places.new) }
+) -> Result<Option<usize>, AllocError>
+    requires { AreIndexed names.now places.old }
+    ensures new_name { IfOk result (λ found. IfNone found (Contains names.now name.now → ⊥)) }
+    ensures found { IfOk result (λ found. IfSome found (λ place. slice_get names.now place ≡ Some name.now)) }
+    ensures entered { IfOk result (λ found. IfNone found (AreIndexed (names.now ++ name.now ∷ []) places.new)) }
+    ensures kept { IfOk result (λ found. IfSome found (λ _. AreIndexed names.now places.new)) }
     ensures err { OnErr result (AreIndexed names.now places.new) }
 {
     let key = name.copy(alloc)?;
-    places.insert(key, names.len())?;
-    Ok(())
+    match places.entry(key)? {
+        Entry::Occupied(entry) => Ok(Some(*entry.get())),
+        Entry::Vacant(entry) => {
+            entry.insert(names.len());
+            Ok(None)
+        }
+    }
 }

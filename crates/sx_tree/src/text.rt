@@ -70,6 +70,16 @@ impl Text {
         }
     }
 
+    /// The text of these bytes, which are in UTF-8 and no more than 1,048,576.
+    pub fn of_utf8(alloc: Global, bytes: &[u8]) -> Result<Text, AllocError>
+        requires utf8 { IsUtf8 bytes.now }
+        requires short { length bytes.now ≤ 1_048_576 }
+        ensures { IfOk result (λ text. text ≡ bytes.now) }
+    {
+        let bytes = Compact::new(alloc, bytes)?;
+        Ok(Text { bytes })
+    }
+
     /// The text.
     pub fn as_str(&self) -> &str
         ensures same { result.now ≡ self.now }
