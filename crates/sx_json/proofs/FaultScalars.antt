@@ -41,6 +41,9 @@ number_goes bytes len n u = (number_keeps bytes len n u, omega (arith, ap length
 pub number_is_whole : (bytes : List ℕ) (most len : ℕ) → IsLongestFront (take most bytes) len → IsNumber (take len bytes) → IsNumber (take len (take most bytes))
 number_is_whole bytes most len front n = subst IsNumber (sym (take-take len most bytes (omega (arith, front.within, length-take most bytes)))) n
 
+pub number_of_all : (bytes : List ℕ) (most len : ℕ) → IsLongestFront (take most bytes) len → IsNumber (take len (take most bytes)) → IsNumber (take len bytes)
+number_of_all bytes most len front n = subst IsNumber (take-take len most bytes (omega (arith, front.within, length-take most bytes))) n
+
 -- The longest front among the first 65 bytes is the longest where it is shorter.
 pub longest_of_all : (bytes : List ℕ) (most len : ℕ) → most ≡ min (length bytes) 65 → IsLongestFront (take most bytes) len → len ≤ 64 → IsLongestFront bytes len
 longest_of_all bytes most len m front short = record { within = omega (arith, front.within, counted); begins = subst BeginsNumber (take-take len most bytes within) front.begins; longest = longest }

@@ -10,3 +10,4 @@ pub mod OneFault
 pub mod Skipping
 pub mod Growing
 pub mod Runs
+pub mod PlainLanes

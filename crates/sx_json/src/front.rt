@@ -21,7 +21,7 @@ fn string_front(alloc: Global, text: &[u8]) -> Result<(Text, usize), JsonFault>
         Some(inside) => inside,
         None => return Err(unexpected(text.len(), text)),
     };
-    match string_at(alloc, text.len(), inside) {
+    match string_at(alloc, text.len(), false, inside) {
         Ok((content, left)) => Ok((content, text.len() - left.len())),
         Err(fault) => Err(fault),
     }

@@ -68,7 +68,7 @@ fn name_at(alloc: Global, end: usize, bytes: &[u8]) -> Result<(Text, &[u8]), Jso
         Some(inside) => inside,
         None => return Err(unexpected(end, bytes)),
     };
-    let (name, after) = string_at(alloc, end, inside)?;
+    let (name, after) = string_at(alloc, end, true, inside)?;
     Ok((name, after))
 }
 

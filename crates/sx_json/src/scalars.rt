@@ -10,7 +10,7 @@ use crate::fault::JsonFault;
 use crate::strings::{place, string_at};
 use std::alloc::Global;
 use sx_tree::json::Scalar;
-use sx_tree::literal::{LITERAL_BYTES, Literal, LiteralFault};
+use sx_tree::literal::{LITERAL_BYTES, Literal};
 use sx_tree::number::number_front;
 
 fn is_blank(byte: u8) -> bool
@@ -63,7 +63,7 @@ pub(crate) fn scalar_at(
     };
     match *first {
         b'"' => {
-            let (text, left) = string_at(alloc, end, inside)?;
+            let (text, left) = string_at(alloc, end, true, inside)?;
             Ok((Scalar::Str(text), left))
         }
         b't' => {
@@ -123,7 +123,7 @@ fn number_at(alloc: Global, end: usize, bytes: &[u8]) -> Result<(Scalar, &[u8]),
 {
     let most = bytes.len().min(LITERAL_BYTES + 1);
     let front = number_front(&bytes[..most]);
-    let (literal, left) = bytes.split_at(front.len);
+    let (number, left) = bytes.split_at(front.len);
     if front.len > LITERAL_BYTES {
         return Err(JsonFault::NumberTooLong {
             at: place(end, bytes),
@@ -132,12 +132,6 @@ fn number_at(alloc: Global, end: usize, bytes: &[u8]) -> Result<(Scalar, &[u8]),
     if !front.is_number {
         return Err(unexpected(end, left));
     }
-    match Literal::new(alloc, literal) {
-        Ok(literal) => Ok((Scalar::Number(literal), left)),
-        Err(LiteralFault::OutOfMemory) => Err(JsonFault::OutOfMemory),
-        Err(LiteralFault::TooLong { .. }) => Err(JsonFault::NumberTooLong {
-            at: place(end, bytes),
-        }),
-        Err(LiteralFault::Bad { .. }) => Err(unexpected(end, left)),
-    }
+    let literal = Literal::of_number(alloc, number)?;
+    Ok((Scalar::Number(literal), left))
 }

@@ -10,11 +10,15 @@ ghost use Rattle.sx_json.specs.Reading.{UnlessMemory};
 use crate::fault::JsonFault;
 use crate::scalars::behind;
 use std::alloc::{AllocError, Global};
+use std::simd::prelude::*;
 use sx_tree::bytes::Bytes;
 use sx_tree::text::{TEXT_BYTES, Text, TextFault};
 
 /// How many bytes a string with escapes has room for at first.
 const ROOM: usize = 64;
+
+/// How many bytes of a string are looked at together.
+const LANES: usize = 16;
 
 /// The place of the rest in a text with this end.
 pub(crate) fn place(end: usize, rest: &[u8]) -> u64
@@ -250,8 +254,26 @@ fn is_plain(byte: u8) -> bool
     byte >= 0x20 && byte != b'"' && byte != b'\\'
 }
 
-/// How many bytes at the front stand for themselves in a string.
-fn plain_len(bytes: &[u8]) -> usize
+/// How many of the first 16 bytes stand for themselves in a string, up to the first that does not.
+fn plain_lanes(bytes: &[u8]) -> usize
+    requires { LANES ≤ length bytes.now }
+    ensures within { result ≤ LANES }
+    ensures plain { ArePlain (take result bytes.now) }
+{
+    let lanes = u8x16::from_slice(bytes);
+    let stops = lanes.simd_eq(u8x16::splat(b'"'))
+        | lanes.simd_eq(u8x16::splat(b'\\'))
+        | lanes.simd_lt(u8x16::splat(0x20));
+    let mask = stops.to_bitmask();
+    if mask == 0 {
+        LANES
+    } else {
+        mask.trailing_zeros() as usize
+    }
+}
+
+/// How many of a few bytes at the front stand for themselves in a string.
+fn few_plain(bytes: &[u8]) -> usize
     ensures within { result ≤ length bytes.now }
     ensures plain { ArePlain (take result bytes.now) }
 {
@@ -261,6 +283,22 @@ fn plain_len(bytes: &[u8]) -> usize
         }
     }
     bytes.len()
+}
+
+/// How many bytes at the front stand for themselves in a string.
+fn plain_len(bytes: &[u8]) -> usize
+    ensures within { result ≤ length bytes.now }
+    ensures plain { ArePlain (take result bytes.now) }
+{
+    let mut place = 0;
+    while bytes.len() - place >= LANES {
+        let plain = plain_lanes(&bytes[place..]);
+        if plain < LANES {
+            return place + plain;
+        }
+        place += LANES;
+    }
+    place + few_plain(&bytes[place..])
 }
 
 /// Takes the bytes at the front that stand for themselves, and adds them to the content of a string whose
@@ -278,11 +316,15 @@ fn run_at<'a>(start: u64, bytes: &'a [u8], content: &mut Bytes) -> Result<&'a [u
     Ok(left)
 }
 
-/// The text of a string's content. The string's opening quote stands at `start`.
-fn text_of(alloc: Global, start: u64, content: &[u8]) -> Result<Text, JsonFault>
+/// The text of a string's content, which may be known to be in UTF-8. The string's opening quote stands at `start`.
+fn text_of(alloc: Global, start: u64, is_utf8: bool, content: &[u8]) -> Result<Text, JsonFault>
+    requires { IsTrue is_utf8 → IsUtf8 content.now }
     ensures ok { IfOk result (λ text. (text ≡ content.now) × IsText content.now) }
     ensures err { IsUtf8 content.now → IfErr result (UnlessMemory (IsTooLong start content.now)) }
 {
+    if is_utf8 {
+        return utf8_text(alloc, start, content);
+    }
     match Text::new(alloc, content) {
         Ok(text) => Ok(text),
         Err(TextFault::NotUtf8 { .. }) => Err(JsonFault::BadByte { at: start }),
@@ -291,13 +333,29 @@ fn text_of(alloc: Global, start: u64, content: &[u8]) -> Result<Text, JsonFault>
     }
 }
 
-/// A string with escapes behind its opening quote, which stands at `start`, and the rest.
+/// The text of a string's content in UTF-8. The string's opening quote stands at `start`.
+fn utf8_text(alloc: Global, start: u64, content: &[u8]) -> Result<Text, JsonFault>
+    requires { IsUtf8 content.now }
+    ensures ok { IfOk result (λ text. (text ≡ content.now) × IsText content.now) }
+    ensures err { IfErr result (UnlessMemory (IsTooLong start content.now)) }
+{
+    if content.len() > TEXT_BYTES {
+        return Err(JsonFault::StringTooLong { at: start });
+    }
+    let text = Text::of_utf8(alloc, content)?;
+    Ok(text)
+}
+
+/// A string with escapes behind its opening quote, which stands at `start`, and the rest. The bytes may be known to
+/// be in UTF-8.
 fn escaped_at(
     alloc: Global,
     end: usize,
     start: u64,
+    is_utf8: bool,
     bytes: &[u8],
 ) -> Result<(Text, &[u8]), JsonFault>
+    requires { IsTrue is_utf8 → IsUtf8 bytes.now }
     ensures shorter { IfOk result (λ p. length p.1.now < length bytes.now) }
     ensures ok { IfOk result (λ p. TextAt bytes.now p.0 p.1.now) }
     ensures utf8 { IsUtf8 bytes.now → IfOk result (λ p. IsUtf8 p.1.now) }
@@ -309,7 +367,7 @@ fn escaped_at(
         let rest = run_at(start, left, &mut content)?;
         match piece_at(end, rest, &mut content)? {
             Piece::Closed(after) => {
-                let text = text_of(alloc, start, content.as_slice())?;
+                let text = text_of(alloc, start, is_utf8, content.as_slice())?;
                 return Ok((text, after));
             }
             Piece::More(after) => left = after,
@@ -320,8 +378,14 @@ fn escaped_at(
     }
 }
 
-/// The string behind its opening quote, and the rest.
-pub(crate) fn string_at(alloc: Global, end: usize, bytes: &[u8]) -> Result<(Text, &[u8]), JsonFault>
+/// The string behind its opening quote, and the rest. The bytes may be known to be in UTF-8.
+pub(crate) fn string_at(
+    alloc: Global,
+    end: usize,
+    is_utf8: bool,
+    bytes: &[u8],
+) -> Result<(Text, &[u8]), JsonFault>
+    requires { IsTrue is_utf8 → IsUtf8 bytes.now }
     ensures shorter { IfOk result (λ p. length p.1.now < length bytes.now) }
     ensures ok { IfOk result (λ p. TextAt bytes.now p.0 p.1.now) }
     ensures utf8 { IsUtf8 bytes.now → IfOk result (λ p. IsUtf8 p.1.now) }
@@ -331,9 +395,9 @@ pub(crate) fn string_at(alloc: Global, end: usize, bytes: &[u8]) -> Result<(Text
     let (run, rest) = bytes.split_at(plain_len(bytes));
     match behind(rest, b'"') {
         Some(after) => {
-            let text = text_of(alloc, start, run)?;
+            let text = text_of(alloc, start, is_utf8, run)?;
             Ok((text, after))
         }
-        None => escaped_at(alloc, end, start, bytes),
+        None => escaped_at(alloc, end, start, is_utf8, bytes),
     }
 }

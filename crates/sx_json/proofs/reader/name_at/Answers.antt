@@ -18,3 +18,6 @@ pub returns-clause-goes_on : goal.returns-clause-goes_on
 returns-clause-goes_on c =
     let name = c.in_ok-name.ensures in
     (name.utf8 (utf8_behind 34 c.args.bytes.now c.in-Some.inside.now (omega arith) c.in-Some.ensures c.requires.utf8), omega (arith, name.shorter, ap length c.in-Some.ensures))
+
+pub string_at-requires : goal.string_at-requires
+string_at-requires c = λ _. utf8_behind 34 c.args.bytes.now c.in-Some.inside.now (omega arith) c.in-Some.ensures c.requires.utf8

@@ -27,3 +27,8 @@ returns-in_ok-left-in-102-clause-goes_on c = word_goes (codes "false") c.args.by
 
 pub returns-in_ok-left-in-110-clause-goes_on : goal.returns-in_ok-left-in-110-clause-goes_on
 returns-in_ok-left-in-110-clause-goes_on c = word_goes (codes "null") c.args.bytes.now c.in_ok-left-in-110.left.now (null_keeps c.in_ok-left-in-110.left.now) c.in_ok-left-in-110.ensures.ok c.requires.utf8
+
+pub string_at-requires : goal.string_at-requires
+string_at-requires c = λ _.
+    let is : c.args.bytes.now ≡ 34 ∷ c.in-Some.inside.now = c.in-Some.ensures.cases.0 ∙ ap (λ b. b ∷ c.in-Some.inside.now) c.in-34.is in
+    utf8_behind 34 c.args.bytes.now c.in-Some.inside.now (omega arith) is c.requires.utf8

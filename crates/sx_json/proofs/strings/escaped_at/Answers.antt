@@ -78,3 +78,12 @@ loop-content-preserved c =
           after_run_fault c.args.end c.args.start c.args.bytes.now i.left.now i.content held rest i.invariant.fault run f
           (behind (length held) rest piece.0 after f piece.2 (omega (arith, count, c.len.ensures, c.if-len-gt-TEXT_BYTES.false)) (subst (λ n. StringFault c.args.end c.args.start n after f) count h));
     }
+
+pub text_of-requires : goal.text_of-requires
+text_of-requires c = λ known.
+    let piece = rw c.in-Closed.is at c.in_ok-after.ensures.ok in
+    let i = c.loop-content in
+    let held = c.run_at.new.content in
+    let same : c.as_slice.result.now ≡ held = c.as_slice.ensures ∙ piece.0 in
+    let whole = after_run_text i.left.now i.content held c.in_ok-rest.rest.now c.in_ok-rest.ensures.ok (i.invariant.utf8 (c.requires known)) in
+    subst IsUtf8 (sym same) (split_ascii held c.in-Closed.after.now 34 (omega arith) (rw piece.1 at whole)).0

@@ -39,3 +39,10 @@ returns-in_ok-text-in-Some-clause-utf8 c = λ t.
     let run = take c.plain_len.result bytes in
     let whole : bytes ≡ run ++ 34 ∷ c.in-Some.after.now = sym (take-append-drop c.plain_len.result bytes) ∙ ap (λ l. run ++ l) (sym c.split_at.ensures.back ∙ c.in-Some.ensures) in
     (split_ascii run c.in-Some.after.now 34 (omega arith) (subst IsUtf8 whole t)).1
+
+pub text_of-requires : goal.text_of-requires
+text_of-requires c = λ known.
+    let bytes = c.args.bytes.now in
+    let run = take c.plain_len.result bytes in
+    let whole : bytes ≡ run ++ 34 ∷ c.in-Some.after.now = sym (take-append-drop c.plain_len.result bytes) ∙ ap (λ l. run ++ l) (sym c.split_at.ensures.back ∙ c.in-Some.ensures) in
+    subst IsUtf8 (sym c.split_at.ensures.front) (split_ascii run c.in-Some.after.now 34 (omega arith) (subst IsUtf8 whole (c.requires known))).0
