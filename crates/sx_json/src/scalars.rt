@@ -16,7 +16,8 @@ use sx_tree::number::number_front;
 fn is_blank(byte: u8) -> bool
     ensures { IsTrue result ↔ IsBlank byte }
 {
-    matches!(byte, b' ' | b'\t' | b'\n' | b'\r')
+    // Most bytes are above a space, which is asked first.
+    byte <= b' ' && matches!(byte, b' ' | b'\t' | b'\n' | b'\r')
 }
 
 /// The bytes behind the white space at their front.
