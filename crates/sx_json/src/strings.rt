@@ -272,7 +272,7 @@ fn plain_lanes(bytes: &[u8]) -> usize
     }
 }
 
-/// How many of a few bytes at the front stand for themselves in a string.
+/// How many bytes at the front stand for themselves in a string, looked at one by one, as the last few are.
 fn few_plain(bytes: &[u8]) -> usize
     ensures within { result ≤ length bytes.now }
     ensures plain { ArePlain (take result bytes.now) }
