@@ -108,6 +108,40 @@ fn faults(rt: HostRuntime) -> Result<(), Fail> {
     Ok(())
 }
 
+/// An object's text up to a comma, with 40 names that ascend or fall.
+fn names_from(alloc: Global, first: u8, falls: bool) -> Result<Bytes, AllocError> {
+    let mut text = Bytes::new(alloc);
+    text.push(b'{')?;
+    for place in 0..40 {
+        let name = if falls {
+            first.wrapping_sub(place)
+        } else {
+            first.wrapping_add(place)
+        };
+        text.extend_from_slice(&[b'"', name, b'"', b':', b'0', b','])?;
+    }
+    Ok(text)
+}
+
+/// All of many names are kept, and one that comes again is told.
+#[test]
+fn many_names(rt: HostRuntime) -> Result<(), Fail> {
+    for (first, falls) in [(b'0', false), (b'W', true)] {
+        let mut whole = names_from(rt.alloc(), first, falls)?;
+        whole.extend_from_slice(b"\"\":0}")?;
+        let mut out = Bytes::new(rt.alloc());
+        write(rt.alloc(), &read(rt.alloc(), whole.as_slice())?, &mut out)?;
+        assert_eq!(rt; out.as_slice(), whole.as_slice());
+        for again in [first, b'A'] {
+            let mut text = names_from(rt.alloc(), first, falls)?;
+            text.extend_from_slice(&[b'"', again, b'"'])?;
+            let fault = fault_of(rt.alloc(), text.as_slice());
+            assert_eq!(rt; fault, Some(JsonFault::DuplicateName { at: 241 }));
+        }
+    }
+    Ok(())
+}
+
 #[test]
 fn nesting(rt: HostRuntime) -> Result<(), Fail> {
     let deepest = nested(rt.alloc(), 256)?;
