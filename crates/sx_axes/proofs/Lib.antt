@@ -1,5 +1,4 @@
 pub mod Backward
-pub mod Faults
 pub mod Passing
 pub mod Starting
 pub mod Stepping

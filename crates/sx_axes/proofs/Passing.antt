@@ -1,16 +1,19 @@
 -- One read on along an axis.
-use Rattle.std.proofs.Common.{◌≡◌, ℕ, suc, ◌+◌, ◌-◌, ◌<◌, ◌⊎◌, inl, inr, Bool, true, false, List, [], ◌∷◌, length, Option, Some, None, refl, sym, ap, subst, ◌∙◌, arith}
+use Rattle.std.proofs.Common.{◌≡◌, ℕ, suc, ◌+◌, ◌-◌, ◌<◌, ◌≤◌, ◌⊎◌, inl, inr, Bool, true, false, List, [], ◌∷◌, length, Option, Some, None, refl, sym, ap, subst, ◌∙◌, arith}
 use Rattle.std.specs.Option.{is_some}
 use Rattle.std.specs.Prelude.{Result, Ok, Err, IfErr, IsErrAnd}
+use Rattle.sx_bytes.specs.declared.damage.Damage.{Damage}
+use Rattle.sx_outside.specs.Faults.{Rose}
 use Rattle.sx_tree.specs.declared.query.Axis.{Axis}
 use Rattle.sx_tree.specs.declared.query.Axis.TheVariants.{Child, Descendant, Ancestor, Following, Preceding, FollowingSibling, PrecedingSibling}
 use Rattle.sx_tree.specs.declared.record.NodeRecord.{NodeRecord}
-use Rattle.sx_view.specs.Records.{RecordMap}
+use Rattle.sx_view.specs.Records.{Explains, IsDamaged, RecordMap}
+use Rattle.sx_view.proofs.Failing.{err-later}
 use Rattle.sx_view.specs.declared.fault.Fault.{Fault}
 use Rattle.sx_model.specs.Records.{NodeRow}
-use Rattle.sx_cursor.specs.Damage.{IsDamaged}
 use Rattle.sx_cursor.specs.Told.{Tells}
 use Rattle.sx_cursor.proofs.Telling.{tells-once, some_is, some_number}
+use Rattle.sx_axes.specs.Broken.{IsBroken}
 use Rattle.sx_axes.specs.Course.{Onward, IsChain, IsAlong, IsAhead, IsBack, IsLeftOf, IsLeft, GoesAlong, GoesAhead, goes_to_end, link_of, onward_of}
 use Rattle.sx_axes.specs.Gives.{Passes, Ends, TakesMore}
 use Rattle.sx_axes.specs.declared.course.Course.{Course}
@@ -270,3 +273,9 @@ module _ (o mid : Option (RecordMap NodeRecord)) (a b : Course) (same : mid ≡ 
       let one = on m told listed visits is in
       let two = more m (same ∙ told) one.0 one.1.0 one.1.1.1 in
       omega (arith, one.1.1.2, two)
+
+-- a fault that comes after other reads
+pub fault_after : {T : Type 0} (r : Result T Fault) (fault : Fault) (below mid : Damage → Type 0) (o now : Option (RecordMap NodeRecord)) (a b c count same_count : ℕ) → IsErrAnd r (λ e. e ≡ fault)
+    → ((d : Damage) → mid d → below d) → now ≡ o → same_count ≡ count → a ≤ b → Explains mid (Rose b c) (IsBroken now same_count) fault → IfErr r (Explains below (Rose a c) (IsBroken o count))
+fault_after r fault below mid o now a b c count same_count is damages same counts less why =
+    err-later r (λ x. IsBroken x count) below mid o now a b c fault is damages same less (subst (λ (n : ℕ). Explains mid (Rose b c) (IsBroken now n) fault) counts why)

@@ -1,9 +1,8 @@
 -- What each step of a walk gives.
 use Rattle.std.specs.Prelude.{◌≡◌, ◌+◌, ◌<◌, ℕ, List, [], ◌∷◌, ◌++◌, Option, None, Some, Result, Ok, Err}
 use Rattle.sx_tree.specs.declared.record.NodeRecord.{NodeRecord}
-use Rattle.sx_view.specs.Records.{RecordMap}
+use Rattle.sx_view.specs.Records.{IsDamaged, RecordMap}
 use Rattle.sx_view.specs.declared.fault.Fault.{Fault}
-use Rattle.sx_cursor.specs.Damage.{IsDamaged}
 use Rattle.sx_axes.specs.Course.{HasEnded, IsLeft, reads_left}
 use Rattle.sx_axes.specs.declared.course.Course.{Course}
 use Rattle.sx_axes.specs.declared.course.Passage.{Passage}

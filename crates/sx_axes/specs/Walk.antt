@@ -6,12 +6,11 @@ use Rattle.sx_tree.specs.declared.query.Axis.TheVariants.{Ancestor}
 use Rattle.sx_tree.specs.declared.record.Kind.{Kind}
 use Rattle.sx_tree.specs.declared.record.NodeRecord.{NodeRecord}
 use Rattle.sx_tree.specs.declared.record.Step.{Step}
-use Rattle.sx_view.specs.Records.{RecordMap}
+use Rattle.sx_view.specs.Records.{Explains, RecordMap}
 use Rattle.sx_view.specs.declared.fault.Fault.{Fault}
 use Rattle.sx_view.specs.declared.records.Records.{Ghosts}
 use Rattle.sx_model.specs.Axes.{axis}
 use Rattle.sx_model.specs.Tree.{Forest, size}
-use Rattle.sx_cursor.specs.Damage.{Explains}
 use Rattle.sx_cursor.specs.Told.{Shows}
 use Rattle.sx_axes.specs.Broken.{IsBroken}
 use Rattle.sx_axes.specs.Course.{HasEnded, IsLeft, reads_left, visits_on}
@@ -40,7 +39,7 @@ HasNoAxis o a k = (local : Kind → List ℕ → ℕ) (number : List Step → �
 -- A step of a walk over records, from one course to another. Faults have their causes; no more is read than the visits that it takes may take.
 pub record Walks {N : Type 0} (g : Ghosts N NodeRecord) (old new : N) (from : Course) (given : Option (Result ℕ Fault)) (to : Course) : Type 0 where
   pub gives : Gives (g.told old) from given to
-  pub fault : IfFault (Explains (g.told old) (Rose (g.faults old) (g.faults new)) (IsBroken (g.told old) from.count)) given
+  pub fault : IfFault (Explains (g.damages old) (Rose (g.faults old) (g.faults new)) (IsBroken (g.told old) from.count)) given
   pub ended : HasEnded from → given ≡ None
   pub count : to.count ≡ from.count
   pub keeps : g.keeps old new

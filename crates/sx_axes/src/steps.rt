@@ -2,9 +2,8 @@
 ghost use Rattle.std.specs.Prelude.{◌≡◌, ◌+◌, ◌≤◌, ◌<◌, ◌⊎◌, IfErr, IfOk, IfSome, None, Ok, Option, Some, false, true};
 ghost use Rattle.sx_outside.specs.Faults.{Rose};
 ghost use Rattle.sx_tree.specs.declared.record.NodeRecord.{NodeRecord};
-ghost use Rattle.sx_view.specs.Records.{RecordMap};
+ghost use Rattle.sx_view.specs.Records.{Explains, IsDamaged, RecordMap};
 ghost use Rattle.sx_view.specs.Rows.{row_of};
-ghost use Rattle.sx_cursor.specs.Damage.{Explains, IsDamaged};
 ghost use Rattle.sx_cursor.specs.Told.{Tells};
 ghost use Rattle.sx_tree.specs.declared.query.Axis.TheVariants.{Preceding};
 ghost use Rattle.sx_axes.specs.Broken.{HasLink, IsBroken, LeadsTo, IsReady};
@@ -77,7 +76,7 @@ impl Course {
         requires linked { LeadsTo (N.told records.old) self.now.from to }
         ensures found { IfOk result (λ found. Tells (N.told records.old) to (Some (row_of found))) }
         ensures room { IfOk result (λ _. 0 < self.now.left) }
-        ensures fault { IfErr result (Explains (N.told records.old) (Rose (N.faults records.old) (N.faults records.new)) (IsBroken (N.told records.old) self.now.count)) }
+        ensures fault { IfErr result (Explains (N.damages records.old) (Rose (N.faults records.old) (N.faults records.new)) (IsBroken (N.told records.old) self.now.count)) }
         ensures none { IfErr result (λ fault. IsDamaged fault → (self.now.left ≡ 0) ⊎ Tells (N.told records.old) to None) }
         ensures gets { N.gets records.new ≤ N.gets records.old + 1 }
         ensures within { N.gets records.new ≤ N.gets records.old + self.now.left }
@@ -101,7 +100,7 @@ impl Course {
         requires linked { LeadsTo (N.told records.old) self.now.from up }
         ensures found { IfOk result (λ found. Tells (N.told records.old) up (Some (row_of found))) }
         ensures room { IfOk result (λ _. 0 < self.now.levels + self.now.left) }
-        ensures fault { IfErr result (Explains (N.told records.old) (Rose (N.faults records.old) (N.faults records.new)) (IsBroken (N.told records.old) self.now.count)) }
+        ensures fault { IfErr result (Explains (N.damages records.old) (Rose (N.faults records.old) (N.faults records.new)) (IsBroken (N.told records.old) self.now.count)) }
         ensures none { IfErr result (λ fault. IsDamaged fault → (self.now.levels + self.now.left ≡ 0) ⊎ Tells (N.told records.old) up None) }
         ensures gets { N.gets records.new ≤ N.gets records.old + 1 }
         ensures within { N.gets records.new ≤ N.gets records.old + (self.now.levels + self.now.left) }
@@ -139,7 +138,7 @@ impl Course {
         ensures ready { IfOk result (λ _. IsReady (N.told records.old) self.new) }
         ensures advances { IfOk result (λ passage. Advances (N.told records.old) self.old passage self.new) }
         ensures beyond { IfErr result (λ fault. IsDamaged fault → TakesMore (N.told records.old) self.old) }
-        ensures fault { IfErr result (Explains (N.told records.old) (Rose (N.faults records.old) (N.faults records.new)) (IsBroken (N.told records.old) self.old.count)) }
+        ensures fault { IfErr result (Explains (N.damages records.old) (Rose (N.faults records.old) (N.faults records.new)) (IsBroken (N.told records.old) self.old.count)) }
         ensures nearer { IfOk result (λ passage. GetsNearer self.old passage self.new) }
         ensures ended { HasEnded self.old → result ≡ Ok Ended }
         ensures reads { IfOk result (λ _. N.gets records.new + reads_left self.new ≤ N.gets records.old + reads_left self.old) }
@@ -178,7 +177,7 @@ impl Course {
         ensures ready { IfOk result (λ _. IsReady (N.told records.old) self.new) }
         ensures advances { IfOk result (λ passage. Advances (N.told records.old) self.old passage self.new) }
         ensures beyond { IfErr result (λ fault. IsDamaged fault → TakesMore (N.told records.old) self.old) }
-        ensures fault { IfErr result (Explains (N.told records.old) (Rose (N.faults records.old) (N.faults records.new)) (IsBroken (N.told records.old) self.old.count)) }
+        ensures fault { IfErr result (Explains (N.damages records.old) (Rose (N.faults records.old) (N.faults records.new)) (IsBroken (N.told records.old) self.old.count)) }
         ensures nearer { IfOk result (λ passage. GetsNearer self.old passage self.new) }
         ensures ended { HasEnded self.old → result ≡ Ok Ended }
         ensures reads { IfOk result (λ _. N.gets records.new + reads_left self.new ≤ N.gets records.old + reads_left self.old) }
@@ -237,7 +236,7 @@ impl Course {
         ensures ready { IfOk result (λ _. IsReady (N.told records.old) self.new) }
         ensures advances { IfOk result (λ passage. Advances (N.told records.old) self.old passage self.new) }
         ensures beyond { IfErr result (λ fault. IsDamaged fault → TakesMore (N.told records.old) self.old) }
-        ensures fault { IfErr result (Explains (N.told records.old) (Rose (N.faults records.old) (N.faults records.new)) (IsBroken (N.told records.old) self.old.count)) }
+        ensures fault { IfErr result (Explains (N.damages records.old) (Rose (N.faults records.old) (N.faults records.new)) (IsBroken (N.told records.old) self.old.count)) }
         ensures nearer { IfOk result (λ passage. GetsNearer self.old passage self.new) }
         ensures ended { HasEnded self.old → result ≡ Ok Ended }
         ensures reads { IfOk result (λ _. N.gets records.new + reads_left self.new ≤ N.gets records.old + reads_left self.old) }
@@ -290,7 +289,7 @@ impl Course {
         ensures ready { IfOk result (λ _. IsReady (N.told records.old) self.new) }
         ensures advances { IfOk result (λ passage. Advances (N.told records.old) self.old passage self.new) }
         ensures beyond { IfErr result (λ fault. IsDamaged fault → TakesMore (N.told records.old) self.old) }
-        ensures fault { IfErr result (Explains (N.told records.old) (Rose (N.faults records.old) (N.faults records.new)) (IsBroken (N.told records.old) self.old.count)) }
+        ensures fault { IfErr result (Explains (N.damages records.old) (Rose (N.faults records.old) (N.faults records.new)) (IsBroken (N.told records.old) self.old.count)) }
         ensures nearer { IfOk result (λ passage. GetsNearer self.old passage self.new) }
         ensures ended { HasEnded self.old → result ≡ Ok Ended }
         ensures reads { IfOk result (λ _. N.gets records.new + reads_left self.new ≤ N.gets records.old + reads_left self.old) }
@@ -341,7 +340,7 @@ impl Course {
         ensures ready { IfOk result (λ _. IsReady (N.told records.old) self.new) }
         ensures advances { IfOk result (λ passage. Advances (N.told records.old) self.old passage self.new) }
         ensures beyond { IfErr result (λ fault. IsDamaged fault → TakesMore (N.told records.old) self.old) }
-        ensures fault { IfErr result (Explains (N.told records.old) (Rose (N.faults records.old) (N.faults records.new)) (IsBroken (N.told records.old) self.old.count)) }
+        ensures fault { IfErr result (Explains (N.damages records.old) (Rose (N.faults records.old) (N.faults records.new)) (IsBroken (N.told records.old) self.old.count)) }
         ensures nearer { IfOk result (λ passage. GetsNearer self.old passage self.new) }
         ensures ended { HasEnded self.old → result ≡ Ok Ended }
         ensures reads { IfOk result (λ _. N.gets records.new + reads_left self.new ≤ N.gets records.old + reads_left self.old) }
@@ -390,7 +389,7 @@ impl Course {
         ensures ready { IfOk result (λ _. IsReady (N.told records.old) self.new) }
         ensures advances { IfOk result (λ passage. Advances (N.told records.old) self.old passage self.new) }
         ensures beyond { IfErr result (λ fault. IsDamaged fault → TakesMore (N.told records.old) self.old) }
-        ensures fault { IfErr result (Explains (N.told records.old) (Rose (N.faults records.old) (N.faults records.new)) (IsBroken (N.told records.old) self.old.count)) }
+        ensures fault { IfErr result (Explains (N.damages records.old) (Rose (N.faults records.old) (N.faults records.new)) (IsBroken (N.told records.old) self.old.count)) }
         ensures nearer { IfOk result (λ passage. GetsNearer self.old passage self.new) }
         ensures ended { HasEnded self.old → result ≡ Ok Ended }
         ensures reads { IfOk result (λ _. N.gets records.new + reads_left self.new ≤ N.gets records.old + reads_left self.old) }
@@ -418,7 +417,7 @@ impl Course {
         ensures ready { IfOk result (λ _. IsReady (N.told records.old) self.new) }
         ensures follows { IfOk result (λ found. Follows (N.told records.old) self.old found self.new) }
         ensures beyond { IfErr result (λ fault. IsDamaged fault → TakesMore (N.told records.old) self.old) }
-        ensures fault { IfErr result (Explains (N.told records.old) (Rose (N.faults records.old) (N.faults records.new)) (IsBroken (N.told records.old) self.old.count)) }
+        ensures fault { IfErr result (Explains (N.damages records.old) (Rose (N.faults records.old) (N.faults records.new)) (IsBroken (N.told records.old) self.old.count)) }
         ensures nearer { IfOk result (λ found. IfSome found (λ _. reads_left self.new < reads_left self.old)) }
         ensures ended { HasEnded self.old → result ≡ Ok None }
         ensures reads { IfOk result (λ _. N.gets records.new + reads_left self.new ≤ N.gets records.old + reads_left self.old) }

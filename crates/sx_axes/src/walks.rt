@@ -1,6 +1,7 @@
 //! The start of a walk.
 ghost use Rattle.std.specs.Prelude.{◌≡◌, ◌+◌, ◌≤◌, IfErr, IfNone, IfOk, IfSome, None};
-ghost use Rattle.sx_cursor.specs.Damage.{IsDamaged, IsOfGet};
+ghost use Rattle.sx_view.specs.Records.{IsDamaged};
+ghost use Rattle.sx_cursor.specs.Damage.{IsOfGet};
 ghost use Rattle.sx_cursor.specs.Told.{Tells};
 ghost use Rattle.sx_axes.specs.Broken.{IsReady};
 ghost use Rattle.sx_axes.specs.Walk.{HasNoAxis, Starts};

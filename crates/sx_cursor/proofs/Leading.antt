@@ -2,19 +2,19 @@
 use Rattle.std.proofs.Common.{◌≡◌, ℕ, List, [], ◌∷◌, Option, Some, None, refl, sym, ap, subst, ◌∙◌, inl, inr, Bool}
 use Rattle.std.specs.Prelude.{Result, Ok, Err, IfErr}
 use Rattle.std.specs.Option.{option_or}
+use Rattle.sx_bytes.specs.declared.damage.Damage.{Damage}
 use Rattle.sx_tree.specs.declared.record.Kind.{Kind}
 use Rattle.sx_tree.specs.declared.record.NodeRecord.{NodeRecord}
 use Rattle.sx_tree.specs.declared.record.Step.{Step}
 use Rattle.sx_view.specs.declared.fault.Fault.{Fault}
 use Rattle.sx_view.specs.declared.fault.Fault.TheVariants.{Failed, Damaged, OutOfMemory}
-use Rattle.sx_view.specs.Records.{RecordMap}
+use Rattle.sx_view.specs.Records.{Explains, IsDamaged, RecordMap}
 use Rattle.sx_model.specs.Holes.{Frame, plug, around_hole}
 use Rattle.sx_model.specs.Records.{NodeRow, at_top, first_of, last_of, rows}
 use Rattle.sx_model.specs.Tree.{Node, Forest, no_trees, tree_then, beside}
 use Rattle.sx_model.proofs.Holes.{or_none}
 use Rattle.sx_model.proofs.Spots.{beside_assoc}
 use Rattle.sx_cursor.specs.Cursor.{Place, BreaksOff, IsNoPlace}
-use Rattle.sx_cursor.specs.Damage.{Explains, IsDamaged}
 use Rattle.sx_cursor.specs.Told.{Tells, Shows, TellsAll, row_there}
 use Rattle.sx_cursor.proofs.Telling.{is_at, told, tells-once, some_number}
 
@@ -124,21 +124,21 @@ not_both None k v m is one other = absurd cc
 not_both (Some n) k v m is one other = absurd (cc (tells-once n k (Some v) None one other))
 
 -- Damage at a link that leads on: there is no such place in the records of a document.
-pub no_place : (link : NodeRow → Option ℕ) (o : Option (RecordMap NodeRecord)) (old : Place) (rose : Type 0) (fault : Fault)
+pub no_place : (link : NodeRow → Option ℕ) (o : Option (RecordMap NodeRecord)) (old : Place) (below : Damage → Type 0) (rose : Type 0) (fault : Fault)
     → ((local : Kind → List ℕ → ℕ) (number : List Step → ℕ) → Leads local number o old.row → LeadsOn link o old.row)
-    → Explains o rose (BreaksOff link o old) fault → IsDamaged fault → IsNoPlace o old
+    → ((d : Damage) → below d → o ≡ None) → Explains below rose (BreaksOff link o old) fault → IsDamaged fault → IsNoPlace o old
 unfolding IsNoPlace
-no_place link o old rose Failed on why = λ is. absurd is
-no_place link o old rose OutOfMemory on why = λ is. absurd is
-no_place link o old rose (Damaged damage) on (inl untold) = λ is local number trees shows stands.
-    absurd (subst (λ x. Shows local number trees x) untold shows).holds
-no_place link None old rose (Damaged damage) on (inr broken) = λ is local number trees shows stands. absurd shows.holds
-no_place link (Some m) old rose (Damaged damage) on (inr broken) = λ is local number trees shows stands.
+no_place link o old below rose Failed on untold why = λ is. absurd is
+no_place link o old below rose OutOfMemory on untold why = λ is. absurd is
+no_place link o old below rose (Damaged damage) on untold (inl told) = λ is local number trees shows stands.
+    absurd (subst (λ x. Shows local number trees x) (untold damage told) shows).holds
+no_place link None old below rose (Damaged damage) on untold (inr broken) = λ is local number trees shows stands. absurd shows.holds
+no_place link (Some m) old below rose (Damaged damage) on untold (inr broken) = λ is local number trees shows stands.
     let there = on local number (leads local number trees (Some m) old.at old.row shows stands) broken.0 broken.1.0 in
     not_both (Some m) broken.0 there.0 m refl there.1 broken.1.1.0
 
-pub move_sound : (r : Result Bool Fault) (link : NodeRow → Option ℕ) (o : Option (RecordMap NodeRecord)) (old : Place) (rose : Type 0)
+pub move_sound : (r : Result Bool Fault) (link : NodeRow → Option ℕ) (o : Option (RecordMap NodeRecord)) (old : Place) (below : Damage → Type 0) (rose : Type 0)
     → ((local : Kind → List ℕ → ℕ) (number : List Step → ℕ) → Leads local number o old.row → LeadsOn link o old.row)
-    → IfErr r (Explains o rose (BreaksOff link o old)) → IfErr r (λ fault. IsDamaged fault → IsNoPlace o old)
-move_sound (Ok b) link o old rose on why = why
-move_sound (Err fault) link o old rose on why = no_place link o old rose fault on why
+    → ((d : Damage) → below d → o ≡ None) → IfErr r (Explains below rose (BreaksOff link o old)) → IfErr r (λ fault. IsDamaged fault → IsNoPlace o old)
+move_sound (Ok b) link o old below rose on untold why = why
+move_sound (Err fault) link o old below rose on untold why = no_place link o old below rose fault on untold why

@@ -25,29 +25,17 @@ endless count = number_damage 0 ENDLESS count (count + 1)
 abbrev pub misplaced : ℕ → ℕ → Damage
 misplaced node byte = number_damage 0 MISPLACED node byte
 
--- Failed comes only where the faults of the object below rose, and damage is told only where the records are not, or of a rule
--- that is broken.
-abbrev pub Explains : {T : Type 0} → Option T → Type 0 → (Damage → Type 0) → Fault → Type 0
-Explains told rose broken Failed = rose
-Explains told rose broken (Damaged damage) = (told ≡ None) ⊎ broken damage
-Explains told rose broken OutOfMemory = Unit {0}
-
 -- The fault is that of one get of the records, after which they are such: Failed comes only where the faults of the object below rose in it.
 pub record IsOfGet {N : Type 0} (g : Ghosts N NodeRecord) (old : N) (fault : Fault) : Type 0 where
   pub after : N
   pub keeps : g.keeps old after
   pub gets : g.gets after ≤ g.gets old + 1
   pub never_falls : g.faults old ≤ g.faults after
-  pub cause : ExplainsFault (g.told old) (Rose (g.faults old) (g.faults after)) fault
+  pub cause : ExplainsFault (g.damages old) (Rose (g.faults old) (g.faults after)) fault
 
 -- the node linked to has no record
 abbrev pub IsBrokenLink : Option (RecordMap NodeRecord) → ℕ → ℕ → Damage → Type 0
 IsBrokenLink o from to damage = Tells o to None × (damage ≡ broken_link from to)
-
-abbrev pub IsDamaged : Fault → Type 0
-IsDamaged Failed = ⊥
-IsDamaged (Damaged damage) = Unit {0}
-IsDamaged OutOfMemory = ⊥
 
 -- ---- rules that are broken
 

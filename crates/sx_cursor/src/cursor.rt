@@ -1,10 +1,10 @@
 //! A place in the records of a document.
 ghost use Rattle.std.specs.Prelude.{◌≡◌, ◌+◌, ◌≤◌, IfErr, IfOk, IfSome, IfNone, None, Some, option_map};
 ghost use Rattle.sx_outside.specs.Faults.{Rose};
-ghost use Rattle.sx_view.specs.Records.{ExplainsFault};
+ghost use Rattle.sx_view.specs.Records.{Explains, ExplainsFault, IsDamaged};
 ghost use Rattle.sx_view.specs.Rows.{row_of};
 ghost use Rattle.sx_cursor.specs.Cursor.{BreaksOff, IsMoved, IsMovedTo, IsNoPlace, Stands, place_of};
-ghost use Rattle.sx_cursor.specs.Damage.{Explains, IsDamaged, IsOfGet};
+ghost use Rattle.sx_cursor.specs.Damage.{IsOfGet};
 ghost use Rattle.sx_cursor.specs.Told.{Tells};
 
 use crate::reads::read_linked;
@@ -25,11 +25,12 @@ impl<'a, N: Records<NodeRecord>> Cursor<'a, N> {
     ///
     /// # Errors
     ///
-    /// `Failed` only where the faults of the object below rose; `Damaged` only where the records are not told; `OutOfMemory`.
+    /// `Failed` only where the faults of the object below rose; `Damaged` only with a damage of that object; `OutOfMemory`.
     pub fn new(alloc: Global, records: &'a mut N, at: u32) -> Result<Option<Cursor<'a, N>>, Fault>
         ensures there { IfOk result (λ found. IfSome found (λ cursor. (cursor.at ≡ at) × Stands (N.told records.old) (place_of cursor.at cursor.record))) }
         ensures same_records { IfOk result (λ found. IfSome found (λ cursor. (cursor.records.ghost_name ≡ records.entry.ghost_name)
             × N.keeps records.old cursor.records.now)) }
+        ensures gets { IfOk result (λ found. IfSome found (λ cursor. N.gets cursor.records.now ≤ N.gets records.old + 1)) }
         ensures absent { IfOk result (λ found. IfNone found (Tells (N.told records.old) at None)) }
         ensures fault { IfErr result (IsOfGet N.Records records.old) }
         ensures damaged { IfErr result (λ fault. IsDamaged fault → N.told records.old ≡ None) }
@@ -52,7 +53,7 @@ impl<'a, N: Records<NodeRecord>> Cursor<'a, N> {
         ensures never_falls { N.faults self.old.records.now ≤ N.faults self.new.records.now }
         ensures moved { IfOk result (IsMoved (λ _. link) (N.told self.old.records.now) (place_of self.old.at self.old.record) (place_of self.new.at self.new.record)) }
         ensures stays { IfErr result (λ _. place_of self.new.at self.new.record ≡ place_of self.old.at self.old.record) }
-        ensures fault { IfErr result (Explains (N.told self.old.records.now) (Rose (N.faults self.old.records.now) (N.faults self.new.records.now))
+        ensures fault { IfErr result (Explains (N.damages self.old.records.now) (Rose (N.faults self.old.records.now) (N.faults self.new.records.now))
             (BreaksOff (λ _. link) (N.told self.old.records.now) (place_of self.old.at self.old.record))) }
     {
         let Some(to) = link else {
@@ -67,8 +68,8 @@ impl<'a, N: Records<NodeRecord>> Cursor<'a, N> {
     ///
     /// # Errors
     ///
-    /// The place is kept. `Failed` only where the faults of the object below rose; `Damaged` only where the records are not
-    /// told; `OutOfMemory`.
+    /// The place is kept. `Failed` only where the faults of the object below rose; `Damaged` only with a damage of that object;
+    /// `OutOfMemory`.
     pub fn to(&mut self, alloc: Global, k: u32) -> Result<bool, Fault>
         ensures same_records { self.new.records.ghost_name ≡ self.old.records.ghost_name }
         ensures keeps { N.keeps self.old.records.now self.new.records.now }
@@ -76,7 +77,7 @@ impl<'a, N: Records<NodeRecord>> Cursor<'a, N> {
         ensures never_falls { N.faults self.old.records.now ≤ N.faults self.new.records.now }
         ensures moved { IfOk result (IsMovedTo k (N.told self.old.records.now) (place_of self.old.at self.old.record) (place_of self.new.at self.new.record)) }
         ensures stays { IfErr result (λ _. place_of self.new.at self.new.record ≡ place_of self.old.at self.old.record) }
-        ensures fault { IfErr result (ExplainsFault (N.told self.old.records.now) (Rose (N.faults self.old.records.now) (N.faults self.new.records.now))) }
+        ensures fault { IfErr result (ExplainsFault (N.damages self.old.records.now) (Rose (N.faults self.old.records.now) (N.faults self.new.records.now))) }
     {
         match self.records.get(alloc, k)? {
             Some(record) => {
@@ -93,7 +94,7 @@ impl<'a, N: Records<NodeRecord>> Cursor<'a, N> {
     /// # Errors
     ///
     /// The place is kept. `Failed` only where the faults of the object below rose; `Damaged` where the link leads to a node
-    /// that has no record, and else only where the records are not told; `OutOfMemory`.
+    /// that has no record, and else only with a damage of that object; `OutOfMemory`.
     pub fn to_parent(&mut self, alloc: Global) -> Result<bool, Fault>
         ensures same_records { self.new.records.ghost_name ≡ self.old.records.ghost_name }
         ensures keeps { N.keeps self.old.records.now self.new.records.now }
@@ -101,7 +102,7 @@ impl<'a, N: Records<NodeRecord>> Cursor<'a, N> {
         ensures never_falls { N.faults self.old.records.now ≤ N.faults self.new.records.now }
         ensures moved { IfOk result (IsMoved (λ w. w.parent) (N.told self.old.records.now) (place_of self.old.at self.old.record) (place_of self.new.at self.new.record)) }
         ensures stays { IfErr result (λ _. place_of self.new.at self.new.record ≡ place_of self.old.at self.old.record) }
-        ensures fault { IfErr result (Explains (N.told self.old.records.now) (Rose (N.faults self.old.records.now) (N.faults self.new.records.now))
+        ensures fault { IfErr result (Explains (N.damages self.old.records.now) (Rose (N.faults self.old.records.now) (N.faults self.new.records.now))
             (BreaksOff (λ w. w.parent) (N.told self.old.records.now) (place_of self.old.at self.old.record))) }
         ensures sound { IfErr result (λ fault. IsDamaged fault → IsNoPlace (N.told self.old.records.now) (place_of self.old.at self.old.record)) }
     {
@@ -113,7 +114,7 @@ impl<'a, N: Records<NodeRecord>> Cursor<'a, N> {
     /// # Errors
     ///
     /// The place is kept. `Failed` only where the faults of the object below rose; `Damaged` where the link leads to a node
-    /// that has no record, and else only where the records are not told; `OutOfMemory`.
+    /// that has no record, and else only with a damage of that object; `OutOfMemory`.
     pub fn to_first(&mut self, alloc: Global) -> Result<bool, Fault>
         ensures same_records { self.new.records.ghost_name ≡ self.old.records.ghost_name }
         ensures keeps { N.keeps self.old.records.now self.new.records.now }
@@ -121,7 +122,7 @@ impl<'a, N: Records<NodeRecord>> Cursor<'a, N> {
         ensures never_falls { N.faults self.old.records.now ≤ N.faults self.new.records.now }
         ensures moved { IfOk result (IsMoved (λ w. w.first) (N.told self.old.records.now) (place_of self.old.at self.old.record) (place_of self.new.at self.new.record)) }
         ensures stays { IfErr result (λ _. place_of self.new.at self.new.record ≡ place_of self.old.at self.old.record) }
-        ensures fault { IfErr result (Explains (N.told self.old.records.now) (Rose (N.faults self.old.records.now) (N.faults self.new.records.now))
+        ensures fault { IfErr result (Explains (N.damages self.old.records.now) (Rose (N.faults self.old.records.now) (N.faults self.new.records.now))
             (BreaksOff (λ w. w.first) (N.told self.old.records.now) (place_of self.old.at self.old.record))) }
         ensures sound { IfErr result (λ fault. IsDamaged fault → IsNoPlace (N.told self.old.records.now) (place_of self.old.at self.old.record)) }
     {
@@ -133,7 +134,7 @@ impl<'a, N: Records<NodeRecord>> Cursor<'a, N> {
     /// # Errors
     ///
     /// The place is kept. `Failed` only where the faults of the object below rose; `Damaged` where the link leads to a node
-    /// that has no record, and else only where the records are not told; `OutOfMemory`.
+    /// that has no record, and else only with a damage of that object; `OutOfMemory`.
     pub fn to_last(&mut self, alloc: Global) -> Result<bool, Fault>
         ensures same_records { self.new.records.ghost_name ≡ self.old.records.ghost_name }
         ensures keeps { N.keeps self.old.records.now self.new.records.now }
@@ -141,7 +142,7 @@ impl<'a, N: Records<NodeRecord>> Cursor<'a, N> {
         ensures never_falls { N.faults self.old.records.now ≤ N.faults self.new.records.now }
         ensures moved { IfOk result (IsMoved (λ w. w.last) (N.told self.old.records.now) (place_of self.old.at self.old.record) (place_of self.new.at self.new.record)) }
         ensures stays { IfErr result (λ _. place_of self.new.at self.new.record ≡ place_of self.old.at self.old.record) }
-        ensures fault { IfErr result (Explains (N.told self.old.records.now) (Rose (N.faults self.old.records.now) (N.faults self.new.records.now))
+        ensures fault { IfErr result (Explains (N.damages self.old.records.now) (Rose (N.faults self.old.records.now) (N.faults self.new.records.now))
             (BreaksOff (λ w. w.last) (N.told self.old.records.now) (place_of self.old.at self.old.record))) }
         ensures sound { IfErr result (λ fault. IsDamaged fault → IsNoPlace (N.told self.old.records.now) (place_of self.old.at self.old.record)) }
     {
@@ -153,7 +154,7 @@ impl<'a, N: Records<NodeRecord>> Cursor<'a, N> {
     /// # Errors
     ///
     /// The place is kept. `Failed` only where the faults of the object below rose; `Damaged` where the link leads to a node
-    /// that has no record, and else only where the records are not told; `OutOfMemory`.
+    /// that has no record, and else only with a damage of that object; `OutOfMemory`.
     pub fn to_left(&mut self, alloc: Global) -> Result<bool, Fault>
         ensures same_records { self.new.records.ghost_name ≡ self.old.records.ghost_name }
         ensures keeps { N.keeps self.old.records.now self.new.records.now }
@@ -161,7 +162,7 @@ impl<'a, N: Records<NodeRecord>> Cursor<'a, N> {
         ensures never_falls { N.faults self.old.records.now ≤ N.faults self.new.records.now }
         ensures moved { IfOk result (IsMoved (λ w. w.left) (N.told self.old.records.now) (place_of self.old.at self.old.record) (place_of self.new.at self.new.record)) }
         ensures stays { IfErr result (λ _. place_of self.new.at self.new.record ≡ place_of self.old.at self.old.record) }
-        ensures fault { IfErr result (Explains (N.told self.old.records.now) (Rose (N.faults self.old.records.now) (N.faults self.new.records.now))
+        ensures fault { IfErr result (Explains (N.damages self.old.records.now) (Rose (N.faults self.old.records.now) (N.faults self.new.records.now))
             (BreaksOff (λ w. w.left) (N.told self.old.records.now) (place_of self.old.at self.old.record))) }
         ensures sound { IfErr result (λ fault. IsDamaged fault → IsNoPlace (N.told self.old.records.now) (place_of self.old.at self.old.record)) }
     {
@@ -173,7 +174,7 @@ impl<'a, N: Records<NodeRecord>> Cursor<'a, N> {
     /// # Errors
     ///
     /// The place is kept. `Failed` only where the faults of the object below rose; `Damaged` where the link leads to a node
-    /// that has no record, and else only where the records are not told; `OutOfMemory`.
+    /// that has no record, and else only with a damage of that object; `OutOfMemory`.
     pub fn to_right(&mut self, alloc: Global) -> Result<bool, Fault>
         ensures same_records { self.new.records.ghost_name ≡ self.old.records.ghost_name }
         ensures keeps { N.keeps self.old.records.now self.new.records.now }
@@ -181,7 +182,7 @@ impl<'a, N: Records<NodeRecord>> Cursor<'a, N> {
         ensures never_falls { N.faults self.old.records.now ≤ N.faults self.new.records.now }
         ensures moved { IfOk result (IsMoved (λ w. w.right) (N.told self.old.records.now) (place_of self.old.at self.old.record) (place_of self.new.at self.new.record)) }
         ensures stays { IfErr result (λ _. place_of self.new.at self.new.record ≡ place_of self.old.at self.old.record) }
-        ensures fault { IfErr result (Explains (N.told self.old.records.now) (Rose (N.faults self.old.records.now) (N.faults self.new.records.now))
+        ensures fault { IfErr result (Explains (N.damages self.old.records.now) (Rose (N.faults self.old.records.now) (N.faults self.new.records.now))
             (BreaksOff (λ w. w.right) (N.told self.old.records.now) (place_of self.old.at self.old.record))) }
         ensures sound { IfErr result (λ fault. IsDamaged fault → IsNoPlace (N.told self.old.records.now) (place_of self.old.at self.old.record)) }
     {

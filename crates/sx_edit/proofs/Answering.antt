@@ -4,6 +4,7 @@ use Rattle.std.specs.Prelude.{◌^◌, min, Result, Ok, Err, IfErr, IsErrAnd, On
 use Rattle.std.specs.Option.{ForSome}
 use Rattle.std.specs.FinMap as fin
 use Rattle.sx_outside.specs.Faults.{Rose}
+use Rattle.sx_bytes.specs.declared.damage.Damage.{Damage}
 use Rattle.sx_tree.specs.declared.edit.Edited.{Edited}
 use Rattle.sx_tree.specs.declared.edit.EditRefusal.{EditRefusal}
 use Rattle.sx_tree.specs.declared.edit.EditRefusal.TheVariants.{NoNode, PathsSpent}
@@ -27,7 +28,7 @@ use Rattle.sx_tree.specs.declared.record.Step.{Step}
 use Rattle.sx_edit.specs.Answers.{AreOf, Answers, AnswersEach, IsTableOf}
 use Rattle.sx_edit.specs.Pathways.{Kept, Stops}
 use Rattle.sx_edit.proofs.Pathing.{length-table}
-use Rattle.sx_edit.proofs.Going.{explains_later, node-damage}
+use Rattle.sx_edit.proofs.Going.{damage_before, explains_later, node-damage}
 use Rattle.sx_edit.proofs.Looking.{Looked, nowhere, somewhere, look}
 
 -- no state has these records
@@ -82,24 +83,24 @@ stops-answers edit state after had paths OutOfMemory had_is spent stops = tt
 pub had-paths : (had : ℕ) (table : List PathRow) (state : State) → had ≡ min (length table) (2 ^ 32 - 1) → IsTableOf state table → had ≡ length state.paths
 had-paths had table state is of_state = omega (arith, is, of_state.lists.few, length-table table state.paths _ of_state.lists)
 
-pub broken-explains_edit : {A : Type 0} (edit : Edit) (next : ℕ) (told : Option (RecordMap NodeRecord)) (table : List PathRow) (rose : Type 0) (r : Result A EditFault) (fault : Fault) → IsErrAnd r (λ e. e ≡ edit_fault fault)
-    → IsBrokenFault told next fault → IfErr r (ExplainsEdit edit next told table rose)
-broken-explains_edit edit next told table rose (Ok x) fault is broken = absurd is
-broken-explains_edit edit next told table rose (Err e) reading.Failed is broken = absurd broken
-broken-explains_edit edit next told table rose (Err e) (reading.Damaged d) is broken = subst (ExplainsEdit edit next told table rose) (sym is) (inr (inl broken))
-broken-explains_edit edit next told table rose (Err e) reading.OutOfMemory is broken = absurd broken
+pub broken-explains_edit : {A : Type 0} (edit : Edit) (next : ℕ) (told : Option (RecordMap NodeRecord)) (table : List PathRow) (below : Damage → Type 0) (rose : Type 0) (r : Result A EditFault) (fault : Fault) → IsErrAnd r (λ e. e ≡ edit_fault fault)
+    → IsBrokenFault told next fault → IfErr r (ExplainsEdit edit next told table below rose)
+broken-explains_edit edit next told table below rose (Ok x) fault is broken = absurd is
+broken-explains_edit edit next told table below rose (Err e) reading.Failed is broken = absurd broken
+broken-explains_edit edit next told table below rose (Err e) (reading.Damaged d) is broken = subst (ExplainsEdit edit next told table below rose) (sym is) (inr (inl broken))
+broken-explains_edit edit next told table below rose (Err e) reading.OutOfMemory is broken = absurd broken
 
-pub miscounted-explains_edit : {A : Type 0} (edit : Edit) (next : ℕ) (told : Option (RecordMap NodeRecord)) (table : List PathRow) (rose : Type 0) (r : Result A EditFault) (fault : Fault) → IsErrAnd r (λ e. e ≡ edit_fault fault)
-    → IsMiscountedAtMost told (reach_of edit next told) fault → IfErr r (ExplainsEdit edit next told table rose)
-miscounted-explains_edit edit next told table rose (Ok x) fault is broken = absurd is
-miscounted-explains_edit edit next told table rose (Err e) reading.Failed is broken = absurd broken
-miscounted-explains_edit edit next told table rose (Err e) (reading.Damaged d) is broken = subst (ExplainsEdit edit next told table rose) (sym is) (inr (inr (inl broken)))
-miscounted-explains_edit edit next told table rose (Err e) reading.OutOfMemory is broken = subst (ExplainsEdit edit next told table rose) (sym is) tt
+pub miscounted-explains_edit : {A : Type 0} (edit : Edit) (next : ℕ) (told : Option (RecordMap NodeRecord)) (table : List PathRow) (below : Damage → Type 0) (rose : Type 0) (r : Result A EditFault) (fault : Fault) → IsErrAnd r (λ e. e ≡ edit_fault fault)
+    → IsMiscountedAtMost told (reach_of edit next told) fault → IfErr r (ExplainsEdit edit next told table below rose)
+miscounted-explains_edit edit next told table below rose (Ok x) fault is broken = absurd is
+miscounted-explains_edit edit next told table below rose (Err e) reading.Failed is broken = absurd broken
+miscounted-explains_edit edit next told table below rose (Err e) (reading.Damaged d) is broken = subst (ExplainsEdit edit next told table below rose) (sym is) (inr (inr (inl broken)))
+miscounted-explains_edit edit next told table below rose (Err e) reading.OutOfMemory is broken = subst (ExplainsEdit edit next told table below rose) (sym is) tt
 
-pub memory-explains_edit : {A : Type 0} (edit : Edit) (next : ℕ) (told : Option (RecordMap NodeRecord)) (table : List PathRow) (rose : Type 0) (r : Result A EditFault) (fault : Fault) → IsErrAnd r (λ e. e ≡ edit_fault fault)
-    → fault ≡ reading.OutOfMemory → IfErr r (ExplainsEdit edit next told table rose)
-memory-explains_edit edit next told table rose (Ok x) fault is memory = absurd is
-memory-explains_edit edit next told table rose (Err e) fault is memory = subst (ExplainsEdit edit next told table rose) (sym (is ∙ ap edit_fault memory)) tt
+pub memory-explains_edit : {A : Type 0} (edit : Edit) (next : ℕ) (told : Option (RecordMap NodeRecord)) (table : List PathRow) (below : Damage → Type 0) (rose : Type 0) (r : Result A EditFault) (fault : Fault) → IsErrAnd r (λ e. e ≡ edit_fault fault)
+    → fault ≡ reading.OutOfMemory → IfErr r (ExplainsEdit edit next told table below rose)
+memory-explains_edit edit next told table below rose (Ok x) fault is memory = absurd is
+memory-explains_edit edit next told table below rose (Err e) fault is memory = subst (ExplainsEdit edit next told table below rose) (sym (is ∙ ap edit_fault memory)) tt
 
 -- a key, and a value, are not the document
 pub key-below : (kind : Kind) → is_key kind ≡ true → kind ≡ Document → ⊥
@@ -113,11 +114,11 @@ at-most_miscounted told reach reading.Failed is = is
 at-most_miscounted told reach (reading.Damaged d) is = is
 at-most_miscounted told reach reading.OutOfMemory is = absurd is
 
-pub refused-explains : (edit : Edit) (next : ℕ) (told : Option (RecordMap NodeRecord)) (table : List PathRow) (rose : Type 0) (e : EditFault) → IsRefused e → ExplainsEdit edit next told table rose e
-refused-explains edit next told table rose (Refused refusal) is = tt
-refused-explains edit next told table rose Failed is = absurd is
-refused-explains edit next told table rose (Damaged d) is = absurd is
-refused-explains edit next told table rose OutOfMemory is = absurd is
+pub refused-explains : (edit : Edit) (next : ℕ) (told : Option (RecordMap NodeRecord)) (table : List PathRow) (below : Damage → Type 0) (rose : Type 0) (e : EditFault) → IsRefused e → ExplainsEdit edit next told table below rose e
+refused-explains edit next told table below rose (Refused refusal) is = tt
+refused-explains edit next told table below rose Failed is = absurd is
+refused-explains edit next told table below rose (Damaged d) is = absurd is
+refused-explains edit next told table below rose OutOfMemory is = absurd is
 
 pub breach-broken : (told : Option (RecordMap NodeRecord)) (table : List PathRow) (reach : Reach) (e : EditFault) → IsBreachEdit told table reach e → IsBrokenEdit told table reach e
 breach-broken told table reach (Refused refusal) is = tt
@@ -130,56 +131,56 @@ broken-edit told table reach reading.Failed is = absurd is
 broken-edit told table reach (reading.Damaged d) is = inl is
 broken-edit told table reach reading.OutOfMemory is = tt
 
-pub broken_edit-explains : (edit : Edit) (next : ℕ) (told : Option (RecordMap NodeRecord)) (table : List PathRow) (rose : Type 0) (e : EditFault) → IsBrokenEdit told table (reach_of edit next told) e → ExplainsEdit edit next told table rose e
-broken_edit-explains edit next told table rose (Refused refusal) is = tt
-broken_edit-explains edit next told table rose Failed is = absurd is
-broken_edit-explains edit next told table rose (Damaged d) is = inr (inr is)
-broken_edit-explains edit next told table rose OutOfMemory is = tt
+pub broken_edit-explains : (edit : Edit) (next : ℕ) (told : Option (RecordMap NodeRecord)) (table : List PathRow) (below : Damage → Type 0) (rose : Type 0) (e : EditFault) → IsBrokenEdit told table (reach_of edit next told) e → ExplainsEdit edit next told table below rose e
+broken_edit-explains edit next told table below rose (Refused refusal) is = tt
+broken_edit-explains edit next told table below rose Failed is = absurd is
+broken_edit-explains edit next told table below rose (Damaged d) is = inr (inr is)
+broken_edit-explains edit next told table below rose OutOfMemory is = tt
 
-module _ {V : Type 0} (told : V → Option (RecordMap NodeRecord)) (faults : V → ℕ) (has_mark : V → Bool) (marks : V → V → Type 0) where
-  fault_explains : (edit : Edit) (next : ℕ) (table : List PathRow) (a b c : V) (fault : Fault) → GoesOn told faults has_mark marks a b → told b ≡ told a
-      → Explains next (told b) (Rose (faults b) (faults c)) fault → ExplainsEdit edit next (told a) table (Rose (faults a) (faults c)) (edit_fault fault)
-  fault_explains edit next table a b c reading.Failed first same is = explains_later told faults has_mark marks next a b c reading.Failed first same is
-  fault_explains edit next table a b c (reading.Damaged d) first same is = node-damage (reach_of edit next (told a)) next (told a) table d refl (explains_later told faults has_mark marks next a b c (reading.Damaged d) first same is)
+module _ {V : Type 0} (told : V → Option (RecordMap NodeRecord)) (faults : V → ℕ) (damages : V → Damage → Type 0) (has_mark : V → Bool) (marks : V → V → Type 0) where
+  fault_explains : (edit : Edit) (next : ℕ) (table : List PathRow) (a b c : V) (fault : Fault) → GoesOn told faults damages has_mark marks a b → told b ≡ told a
+      → Explains next (told b) (damages b) (Rose (faults b) (faults c)) fault → ExplainsEdit edit next (told a) table (damages a) (Rose (faults a) (faults c)) (edit_fault fault)
+  fault_explains edit next table a b c reading.Failed first same is = explains_later told faults damages has_mark marks next a b c reading.Failed first same is
+  fault_explains edit next table a b c (reading.Damaged d) first same is = node-damage (reach_of edit next (told a)) next (told a) table (damages a) d refl (explains_later told faults damages has_mark marks next a b c (reading.Damaged d) first same is)
   fault_explains edit next table a b c reading.OutOfMemory first same is = tt
 
-  pub err-explains_edit : {A : Type 0} (edit : Edit) (next : ℕ) (table : List PathRow) (a b c : V) (r : Result A EditFault) (fault : Fault) → IsErrAnd r (λ e. e ≡ edit_fault fault) → GoesOn told faults has_mark marks a b → told b ≡ told a
-      → Explains next (told b) (Rose (faults b) (faults c)) fault → IfErr r (ExplainsEdit edit next (told a) table (Rose (faults a) (faults c)))
+  pub err-explains_edit : {A : Type 0} (edit : Edit) (next : ℕ) (table : List PathRow) (a b c : V) (r : Result A EditFault) (fault : Fault) → IsErrAnd r (λ e. e ≡ edit_fault fault) → GoesOn told faults damages has_mark marks a b → told b ≡ told a
+      → Explains next (told b) (damages b) (Rose (faults b) (faults c)) fault → IfErr r (ExplainsEdit edit next (told a) table (damages a) (Rose (faults a) (faults c)))
   err-explains_edit edit next table a b c (Ok x) fault is first same holds = absurd is
   err-explains_edit edit next table a b c (Err e) fault is first same holds =
-      subst (ExplainsEdit edit next (told a) table (Rose (faults a) (faults c))) (sym is) (fault_explains edit next table a b c fault first same holds)
+      subst (ExplainsEdit edit next (told a) table (damages a) (Rose (faults a) (faults c))) (sym is) (fault_explains edit next table a b c fault first same holds)
 
-  both_explains : (edit : Edit) (next : ℕ) (table : List PathRow) (a b c : V) (fault : Fault) → GoesOn told faults has_mark marks a b → told b ≡ told a
-      → ExplainsBoth (reach_of edit next (told b)) (told b) table (Rose (faults b) (faults c)) fault → ExplainsEdit edit next (told a) table (Rose (faults a) (faults c)) (edit_fault fault)
+  both_explains : (edit : Edit) (next : ℕ) (table : List PathRow) (a b c : V) (fault : Fault) → GoesOn told faults damages has_mark marks a b → told b ≡ told a
+      → ExplainsBoth (reach_of edit next (told b)) (told b) table (damages b) (Rose (faults b) (faults c)) fault → ExplainsEdit edit next (told a) table (damages a) (Rose (faults a) (faults c)) (edit_fault fault)
   both_explains edit next table a b c reading.Failed first same is = omega (arith, is, first.never_falls)
-  both_explains edit next table a b c (reading.Damaged d) first same is = subst (λ o. IsDamage edit next o table d) same is
+  both_explains edit next table a b c (reading.Damaged d) first same is = damage_before edit next (told b) (told a) table (damages b) (damages a) d same (first.same_damages d) is
   both_explains edit next table a b c reading.OutOfMemory first same is = tt
 
   -- the same where paths were counted too
-  pub both-explains_edit : {A : Type 0} (edit : Edit) (next : ℕ) (table : List PathRow) (a b c : V) (r : Result A EditFault) (fault : Fault) → IsErrAnd r (λ e. e ≡ edit_fault fault) → GoesOn told faults has_mark marks a b → told b ≡ told a
-      → ExplainsBoth (reach_of edit next (told b)) (told b) table (Rose (faults b) (faults c)) fault → IfErr r (ExplainsEdit edit next (told a) table (Rose (faults a) (faults c)))
+  pub both-explains_edit : {A : Type 0} (edit : Edit) (next : ℕ) (table : List PathRow) (a b c : V) (r : Result A EditFault) (fault : Fault) → IsErrAnd r (λ e. e ≡ edit_fault fault) → GoesOn told faults damages has_mark marks a b → told b ≡ told a
+      → ExplainsBoth (reach_of edit next (told b)) (told b) table (damages b) (Rose (faults b) (faults c)) fault → IfErr r (ExplainsEdit edit next (told a) table (damages a) (Rose (faults a) (faults c)))
   both-explains_edit edit next table a b c (Ok x) fault is first same holds = absurd is
   both-explains_edit edit next table a b c (Err e) fault is first same holds =
-      subst (ExplainsEdit edit next (told a) table (Rose (faults a) (faults c))) (sym is) (both_explains edit next table a b c fault first same holds)
+      subst (ExplainsEdit edit next (told a) table (damages a) (Rose (faults a) (faults c))) (sym is) (both_explains edit next table a b c fault first same holds)
 
-  later_explains : (edit : Edit) (next : ℕ) (table : List PathRow) (a b c : V) (e : EditFault) → GoesOn told faults has_mark marks a b → told b ≡ told a → ExplainsEdit edit next (told b) table (Rose (faults b) (faults c)) e
-      → ExplainsEdit edit next (told a) table (Rose (faults a) (faults c)) e
+  later_explains : (edit : Edit) (next : ℕ) (table : List PathRow) (a b c : V) (e : EditFault) → GoesOn told faults damages has_mark marks a b → told b ≡ told a → ExplainsEdit edit next (told b) table (damages b) (Rose (faults b) (faults c)) e
+      → ExplainsEdit edit next (told a) table (damages a) (Rose (faults a) (faults c)) e
   later_explains edit next table a b c (Refused refusal) first same is = tt
-  later_explains edit next table a b c Failed first same is = explains_later told faults has_mark marks next a b c reading.Failed first same is
-  later_explains edit next table a b c (Damaged d) first same is = subst (λ o. IsDamage edit next o table d) same is
+  later_explains edit next table a b c Failed first same is = explains_later told faults damages has_mark marks next a b c reading.Failed first same is
+  later_explains edit next table a b c (Damaged d) first same is = damage_before edit next (told b) (told a) table (damages b) (damages a) d same (first.same_damages d) is
   later_explains edit next table a b c OutOfMemory first same is = tt
 
   -- what a later step answers
-  pub later-explains_edit : {A : Type 0} (edit : Edit) (next : ℕ) (table : List PathRow) (a b c : V) (r : Result A EditFault) → GoesOn told faults has_mark marks a b → told b ≡ told a
-      → IfErr r (ExplainsEdit edit next (told b) table (Rose (faults b) (faults c))) → IfErr r (ExplainsEdit edit next (told a) table (Rose (faults a) (faults c)))
+  pub later-explains_edit : {A : Type 0} (edit : Edit) (next : ℕ) (table : List PathRow) (a b c : V) (r : Result A EditFault) → GoesOn told faults damages has_mark marks a b → told b ≡ told a
+      → IfErr r (ExplainsEdit edit next (told b) table (damages b) (Rose (faults b) (faults c))) → IfErr r (ExplainsEdit edit next (told a) table (damages a) (Rose (faults a) (faults c)))
   later-explains_edit edit next table a b c (Ok x) first same is = tt
   later-explains_edit edit next table a b c (Err e) first same is = later_explains edit next table a b c e first same is
 
   -- a fault of an edit that goes on
-  pub again-explains_edit : {A : Type 0} (edit : Edit) (next : ℕ) (table : List PathRow) (a b c : V) (r : Result A EditFault) (e : EditFault) → IsErrAnd r (λ x. x ≡ e) → GoesOn told faults has_mark marks a b → told b ≡ told a
-      → ExplainsEdit edit next (told b) table (Rose (faults b) (faults c)) e → IfErr r (ExplainsEdit edit next (told a) table (Rose (faults a) (faults c)))
+  pub again-explains_edit : {A : Type 0} (edit : Edit) (next : ℕ) (table : List PathRow) (a b c : V) (r : Result A EditFault) (e : EditFault) → IsErrAnd r (λ x. x ≡ e) → GoesOn told faults damages has_mark marks a b → told b ≡ told a
+      → ExplainsEdit edit next (told b) table (damages b) (Rose (faults b) (faults c)) e → IfErr r (ExplainsEdit edit next (told a) table (damages a) (Rose (faults a) (faults c)))
   again-explains_edit edit next table a b c (Ok x) e is first same holds = absurd is
-  again-explains_edit edit next table a b c (Err x) e is first same holds = subst (ExplainsEdit edit next (told a) table (Rose (faults a) (faults c))) (sym is) (later_explains edit next table a b c e first same holds)
+  again-explains_edit edit next table a b c (Err x) e is first same holds = subst (ExplainsEdit edit next (told a) table (damages a) (Rose (faults a) (faults c))) (sym is) (later_explains edit next table a b c e first same holds)
 
 -- where no record is read, there is no node
 pub no-node : (k : ℕ) (make : Spot → Result State EditRefusal) (state : State) (next : ℕ) (o : Option (RecordMap NodeRecord)) (there : Option NodeRecord)
@@ -213,17 +214,18 @@ settled-answers edit next before begun worked after (Err fault) outcome told tab
     undone edit next before worked after fault (subst (λ r. AnswersEach edit next before worked r) (sym same) first)
 
 -- what was answered is explained over all of the edit
-pub settled-explains : {A : Type 0} (edit : Edit) (next : ℕ) (told begun : Option (RecordMap NodeRecord)) (table marked : List PathRow) (first start done last : ℕ) (result outcome : Result A EditFault) → begun ≡ told → marked ≡ table → first ≤ start → done ≤ last → result ≡ outcome
-    → IfErr outcome (ExplainsEdit edit next begun marked (Rose start done)) → IfErr result (ExplainsEdit edit next told table (Rose first last))
-settled-explains edit next told begun table marked first start done last result outcome same same_table low high is explained =
-    subst (λ r. IfErr r (ExplainsEdit edit next told table (Rose first last))) (sym is) (wide outcome explained)
+pub settled-explains : {A : Type 0} (edit : Edit) (next : ℕ) (told begun : Option (RecordMap NodeRecord)) (table marked : List PathRow) (below later : Damage → Type 0) (first start done last : ℕ) (result outcome : Result A EditFault)
+    → begun ≡ told → marked ≡ table → ((d : Damage) → later d → below d) → first ≤ start → done ≤ last → result ≡ outcome
+    → IfErr outcome (ExplainsEdit edit next begun marked later (Rose start done)) → IfErr result (ExplainsEdit edit next told table below (Rose first last))
+settled-explains edit next told begun table marked below later first start done last result outcome same same_table damages low high is explained =
+    subst (λ r. IfErr r (ExplainsEdit edit next told table below (Rose first last))) (sym is) (wide outcome explained)
   where
-    at : (e : EditFault) → ExplainsEdit edit next begun marked (Rose start done) e → ExplainsEdit edit next told table (Rose first last) e
+    at : (e : EditFault) → ExplainsEdit edit next begun marked later (Rose start done) e → ExplainsEdit edit next told table below (Rose first last) e
     at (Refused refusal) holds = tt
     at Failed holds = omega (arith, holds, low, high)
-    at (Damaged d) holds = subst (λ o. IsDamage edit next o table d) same (subst (λ t. IsDamage edit next begun t d) same_table holds)
+    at (Damaged d) holds = damage_before edit next begun told table later below d same (damages d) (subst (λ t. IsDamage edit next begun t later d) same_table holds)
     at OutOfMemory holds = tt
 
-    wide : {A : Type 0} (r : Result A EditFault) → IfErr r (ExplainsEdit edit next begun marked (Rose start done)) → IfErr r (ExplainsEdit edit next told table (Rose first last))
+    wide : {A : Type 0} (r : Result A EditFault) → IfErr r (ExplainsEdit edit next begun marked later (Rose start done)) → IfErr r (ExplainsEdit edit next told table below (Rose first last))
     wide (Ok x) holds = tt
     wide (Err e) holds = at e holds

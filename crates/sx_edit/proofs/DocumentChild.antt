@@ -1,9 +1,10 @@
 -- The Document's child in the trees of a state.
-use Rattle.std.proofs.Common.{◌≡◌, ℕ, List, [], Option, Some, None, Result, Ok, Err, inl, refl, sym, ap, subst, ◌∙◌}
-use Rattle.std.specs.Prelude.{option_and_then, option_map}
+use Rattle.std.proofs.Common.{◌≡◌, ℕ, List, [], Option, Some, None, Result, Ok, Err, inl, inr, refl, sym, ap, subst, ◌∙◌}
+use Rattle.std.specs.Prelude.{◌^◌, ◌⊎◌, option_and_then, option_map}
 use Rattle.std.specs.Option.{unwrap_or}
 use Rattle.std.specs.Option.{ForSome}
 use Rattle.std.specs.FinMap as fin
+use Rattle.sx_bytes.specs.declared.damage.Damage.{Damage}
 use Rattle.sx_tree.specs.declared.edit.Edited.{Edited}
 use Rattle.sx_tree.specs.declared.edit.Place.TheVariants.{Last}
 use Rattle.sx_tree.specs.declared.record.NodeRecord.{NodeRecord}
@@ -19,7 +20,7 @@ use Rattle.sx_model.specs.Tree.{Node, Forest, no_trees, tree_then, IsWellFormed}
 use Rattle.sx_edit.specs.declared.fault.EditFault.{EditFault}
 use Rattle.sx_edit.specs.declared.fault.EditFault.TheVariants.{Refused, Failed, Damaged, OutOfMemory}
 use Rattle.sx_edit.specs.Answers.{AreOf, Answers, AnswersEach}
-use Rattle.sx_edit.specs.Damage.{IsDamageOver, child_of_document, reach_of}
+use Rattle.sx_edit.specs.Damage.{IsBreach, IsBroken, IsDamageOver, IsMiscounted, IsOwnDamage, Reach, child_of_document, reach_of}
 use Rattle.sx_edit.specs.EditFault.{ExplainsEdit}
 use Rattle.sx_edit.specs.Edited.{rows_in}
 use Rattle.sx_edit.specs.Pathways.{Kept, kept}
@@ -87,25 +88,40 @@ module _ (v : Value) (next : ℕ) (o : Option (RecordMap NodeRecord)) (found : O
 
 -- ---- damage
 
+-- whatever rule is broken, the damage is one that an edit tells
+own-damage : (reach : Reach) (o : Option (RecordMap NodeRecord)) (table : List PathRow) (d : Damage) → IsBroken o reach.next d ⊎ (IsMiscounted o reach d ⊎ IsBreach o table reach d) → IsOwnDamage reach.next d
+unfolding IsBreach
+own-damage reach o table d (inl (inl (from, (to, is)))) = (from, (to, inl is.2))
+own-damage reach o table d (inl (inr (inl is))) = (0, (0, inr (inl is.1)))
+own-damage reach o table d (inl (inr (inr (k, (r, is))))) = (k, (_, inr (inr is.3)))
+own-damage reach o table d (inr (inl (inl (k, (r, is))))) = (k, (_, inr (inr is.2)))
+own-damage reach o table d (inr (inl (inr (inl (r, is))))) = (reach.node, (_, inr (inr is.2)))
+own-damage reach o table d (inr (inl (inr (inr (k, (r, (plus, is))))))) = (k, (_, inr (inr is.3)))
+own-damage reach o table d (inr (inr (inl (node, (path, is))))) = (node, (path, inr (inr is.2)))
+own-damage reach o table d (inr (inr (inr (inl (node, (number, (row, is))))))) = (node, (number, inr (inr is.3)))
+own-damage reach o table d (inr (inr (inr (inr (inl (visited, (node, (own, is)))))))) = (node, (0, inr (inr is.4)))
+own-damage reach o table d (inr (inr (inr (inr (inr (node, (came, (path, (row, is))))))))) = (node, (2 ^ 32, inr (inr is.3)))
+
 -- an edit with the same reach
-same_reach : (edit other : Edit) (next : ℕ) (o : Option (RecordMap NodeRecord)) (table : List PathRow) (rose : Type 0) (e : EditFault) → (ForSome o (λ m. reach_of edit next o ≡ reach_of other next o)) → ExplainsEdit edit next o table rose e → ExplainsEdit other next o table rose e
-same_reach edit other next o table rose (Refused refusal) same is = tt
-same_reach edit other next o table rose Failed same is = is
-same_reach edit other next None table rose (Damaged d) same is = inl refl
-same_reach edit other next (Some m) table rose (Damaged d) same is = subst (λ reach. IsDamageOver reach (Some m) table d) (same m refl) is
-same_reach edit other next o table rose OutOfMemory same is = tt
+same_reach : (edit other : Edit) (next : ℕ) (o : Option (RecordMap NodeRecord)) (table : List PathRow) (below : Damage → Type 0) (rose : Type 0) (e : EditFault) → (ForSome o (λ m. reach_of edit next o ≡ reach_of other next o)) → ExplainsEdit edit next o table below rose e → ExplainsEdit other next o table below rose e
+same_reach edit other next o table below rose (Refused refusal) same is = tt
+same_reach edit other next o table below rose Failed same is = is
+same_reach edit other next None table below rose (Damaged d) same (inl is) = inl is
+same_reach edit other next None table below rose (Damaged d) same (inr broken) = inl (inr (refl, own-damage (reach_of edit next None) None table d broken))
+same_reach edit other next (Some m) table below rose (Damaged d) same is = subst (λ reach. IsDamageOver reach (Some m) table below d) (same m refl) is
+same_reach edit other next o table below rose OutOfMemory same is = tt
 
 -- a load that replaces the child, and one that inserts one
-pub load-as_replace : (v : Value) (next child : ℕ) (found : Option ℕ) (o : Option (RecordMap NodeRecord)) (table : List PathRow) (rose : Type 0) (e : EditFault) → ForSome o (λ m. found ≡ option_and_then (λ r. r.first) (fin.get m 0)) → found ≡ Some child
-    → ExplainsEdit (replace child v) next o table rose e → ExplainsEdit (load v) next o table rose e
-load-as_replace v next child found None table rose e child_is some = same_reach (replace child v) (load v) next None table rose e (λ m none. absurd (let x : None ≡ Some m = none in cc))
-load-as_replace v next child found (Some m) table rose e child_is some =
+pub load-as_replace : (v : Value) (next child : ℕ) (found : Option ℕ) (o : Option (RecordMap NodeRecord)) (table : List PathRow) (below : Damage → Type 0) (rose : Type 0) (e : EditFault) → ForSome o (λ m. found ≡ option_and_then (λ r. r.first) (fin.get m 0)) → found ≡ Some child
+    → ExplainsEdit (replace child v) next o table below rose e → ExplainsEdit (load v) next o table below rose e
+load-as_replace v next child found None table below rose e child_is some = same_reach (replace child v) (load v) next None table below rose e (λ m none. absurd (let x : None ≡ Some m = none in cc))
+load-as_replace v next child found (Some m) table below rose e child_is some =
     let same : child ≡ child_of_document (Some m) = sym (ap (λ c. unwrap_or c 0) (sym (child_is m refl) ∙ some)) in
-    same_reach (replace child v) (load v) next (Some m) table rose e (λ x is i. record { next = next; more = nodes v; node = same i })
+    same_reach (replace child v) (load v) next (Some m) table below rose e (λ x is i. record { next = next; more = nodes v; node = same i })
 
-pub load-as_insert : (v : Value) (next : ℕ) (found : Option ℕ) (o : Option (RecordMap NodeRecord)) (table : List PathRow) (rose : Type 0) (e : EditFault) → ForSome o (λ m. found ≡ option_and_then (λ r. r.first) (fin.get m 0)) → found ≡ None
-    → ExplainsEdit (insert (Last 0) None v) next o table rose e → ExplainsEdit (load v) next o table rose e
-load-as_insert v next found None table rose e child_is none = same_reach (insert (Last 0) None v) (load v) next None table rose e (λ m some. absurd (let x : None ≡ Some m = some in cc))
-load-as_insert v next found (Some m) table rose e child_is none =
+pub load-as_insert : (v : Value) (next : ℕ) (found : Option ℕ) (o : Option (RecordMap NodeRecord)) (table : List PathRow) (below : Damage → Type 0) (rose : Type 0) (e : EditFault) → ForSome o (λ m. found ≡ option_and_then (λ r. r.first) (fin.get m 0)) → found ≡ None
+    → ExplainsEdit (insert (Last 0) None v) next o table below rose e → ExplainsEdit (load v) next o table below rose e
+load-as_insert v next found None table below rose e child_is none = same_reach (insert (Last 0) None v) (load v) next None table below rose e (λ m some. absurd (let x : None ≡ Some m = some in cc))
+load-as_insert v next found (Some m) table below rose e child_is none =
     let same : 0 ≡ child_of_document (Some m) = sym (ap (λ c. unwrap_or c 0) (sym (child_is m refl) ∙ none)) in
-    same_reach (insert (Last 0) None v) (load v) next (Some m) table rose e (λ x is i. record { next = next; more = nodes v; node = same i })
+    same_reach (insert (Last 0) None v) (load v) next (Some m) table below rose e (λ x is i. record { next = next; more = nodes v; node = same i })

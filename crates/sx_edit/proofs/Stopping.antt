@@ -3,6 +3,7 @@ use Rattle.std.proofs.Common.{◌≡◌, ℕ, zero, suc, ◌+◌, ◌≤◌, ◌
 use Rattle.std.specs.Prelude.{◌^◌, Result, Ok, Err, IfErr, IsErrAnd}
 use Rattle.std.proofs.lemmas.List.Sums.{count_by-le-length}
 use Rattle.std.proofs.lemmas.List.{length-append}
+use Rattle.sx_bytes.specs.declared.damage.Damage.{Damage}
 use Rattle.sx_tree.specs.declared.json.Json.{Json}
 use Rattle.sx_tree.specs.declared.record.Step.{Step}
 use Rattle.sx_tree.specs.declared.record.Step.TheVariants.{Item, Name}
@@ -69,11 +70,11 @@ fault-breach o table reach (Err e) faults.Failed is breach = absurd breach
 fault-breach o table reach (Err e) (faults.Damaged d) is breach = subst (IsBreachEdit o table reach) (sym is) breach
 fault-breach o table reach (Err e) faults.OutOfMemory is breach = absurd breach
 
-pub breach-edit_explains : (edit : Edit) (next : ℕ) (told : Option (RecordMap NodeRecord)) (table : List PathRow) (rose : Type 0) (e : EditFault) → IsBreachEdit told table (reach_of edit next told) e → ExplainsEdit edit next told table rose e
-breach-edit_explains edit next told table rose (Refused refusal) is = tt
-breach-edit_explains edit next told table rose Failed is = absurd is
-breach-edit_explains edit next told table rose (Damaged d) is = inr (inr (inr is))
-breach-edit_explains edit next told table rose OutOfMemory is = tt
+pub breach-edit_explains : (edit : Edit) (next : ℕ) (told : Option (RecordMap NodeRecord)) (table : List PathRow) (below : Damage → Type 0) (rose : Type 0) (e : EditFault) → IsBreachEdit told table (reach_of edit next told) e → ExplainsEdit edit next told table below rose e
+breach-edit_explains edit next told table below rose (Refused refusal) is = tt
+breach-edit_explains edit next told table below rose Failed is = absurd is
+breach-edit_explains edit next told table below rose (Damaged d) is = inr (inr (inr is))
+breach-edit_explains edit next told table below rose OutOfMemory is = tt
 
 -- the value's path is not as it must be
 pub uncounted-stops : {A : Type 0} (v : Value) (n path more had : ℕ) (table : List PathRow) (r : Result A EditFault) (e : EditFault) → 1 ≤ more → IsErrAnd r (λ x. x ≡ e) → CannotCountIn path table

@@ -188,29 +188,37 @@ IsBreach o table reach damage =
 
 -- ---- what is answered
 
--- Damage is told where the records are not, by the object below, or else of a rule on links that is broken.
-abbrev pub IsNodeDamage : ℕ → Option (RecordMap NodeRecord) → Damage → Type 0
-IsNodeDamage next told damage = (told ≡ None) ⊎ IsBroken told next damage
+-- the damage is one that an edit tells of links, of nodes or of paths
+abbrev pub IsOwnDamage : ℕ → Damage → Type 0
+IsOwnDamage next damage = (n : ℕ) × ((value : ℕ) × ((damage ≡ broken_link n value) ⊎ ((damage ≡ endless next) ⊎ (damage ≡ misplaced n value))))
+
+-- The damage is one of the object below, or the records are not told, and it is one that an edit tells.
+abbrev pub IsUntold : ℕ → Option (RecordMap NodeRecord) → (Damage → Type 0) → Damage → Type 0
+IsUntold next told below damage = below damage ⊎ ((told ≡ None) × IsOwnDamage next damage)
+
+-- the same, or of a rule on links that is broken
+abbrev pub IsNodeDamage : ℕ → Option (RecordMap NodeRecord) → (Damage → Type 0) → Damage → Type 0
+IsNodeDamage next told below damage = IsUntold next told below damage ⊎ IsBroken told next damage
 
 -- the same, or of a count, or of a rule on paths
-abbrev pub IsDamageOver : Reach → Option (RecordMap NodeRecord) → List PathRow → Damage → Type 0
-IsDamageOver reach told table damage =
-    (told ≡ None) ⊎ (IsBroken told reach.next damage ⊎ (IsMiscounted told reach damage ⊎ IsBreach told table reach damage))
+abbrev pub IsDamageOver : Reach → Option (RecordMap NodeRecord) → List PathRow → (Damage → Type 0) → Damage → Type 0
+IsDamageOver reach told table below damage =
+    IsUntold reach.next told below damage ⊎ (IsBroken told reach.next damage ⊎ (IsMiscounted told reach damage ⊎ IsBreach told table reach damage))
 
-abbrev pub IsDamage : Edit → ℕ → Option (RecordMap NodeRecord) → List PathRow → Damage → Type 0
-IsDamage edit next told table damage = IsDamageOver (reach_of edit next told) told table damage
+abbrev pub IsDamage : Edit → ℕ → Option (RecordMap NodeRecord) → List PathRow → (Damage → Type 0) → Damage → Type 0
+IsDamage edit next told table below damage = IsDamageOver (reach_of edit next told) told table below damage
 
 -- Failed comes only where the faults of the object below rose.
-abbrev pub Explains : ℕ → Option (RecordMap NodeRecord) → Type 0 → Fault → Type 0
-Explains next told rose Failed = rose
-Explains next told rose (Damaged damage) = IsNodeDamage next told damage
-Explains next told rose OutOfMemory = Unit {0}
+abbrev pub Explains : ℕ → Option (RecordMap NodeRecord) → (Damage → Type 0) → Type 0 → Fault → Type 0
+Explains next told below rose Failed = rose
+Explains next told below rose (Damaged damage) = IsNodeDamage next told below damage
+Explains next told below rose OutOfMemory = Unit {0}
 
 -- the same where counts and paths are told of too
-abbrev pub ExplainsBoth : Reach → Option (RecordMap NodeRecord) → List PathRow → Type 0 → Fault → Type 0
-ExplainsBoth reach told table rose Failed = rose
-ExplainsBoth reach told table rose (Damaged damage) = IsDamageOver reach told table damage
-ExplainsBoth reach told table rose OutOfMemory = Unit {0}
+abbrev pub ExplainsBoth : Reach → Option (RecordMap NodeRecord) → List PathRow → (Damage → Type 0) → Type 0 → Fault → Type 0
+ExplainsBoth reach told table below rose Failed = rose
+ExplainsBoth reach told table below rose (Damaged damage) = IsDamageOver reach told table below damage
+ExplainsBoth reach told table below rose OutOfMemory = Unit {0}
 
 abbrev pub IsDamaged : Fault → Type 0
 IsDamaged Failed = ⊥

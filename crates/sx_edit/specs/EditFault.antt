@@ -1,5 +1,6 @@
 -- The fault of a reading, as that of an edit; and what each answer of an edit says.
 use Rattle.std.specs.Prelude.{ℕ, List, Option}
+use Rattle.sx_bytes.specs.declared.damage.Damage.{Damage}
 use Rattle.sx_tree.specs.declared.record.NodeRecord.{NodeRecord}
 use Rattle.sx_model.specs.Records.{PathRow}
 use Rattle.sx_view.specs.Records.{RecordMap}
@@ -16,13 +17,13 @@ edit_fault faults.Failed = Failed
 edit_fault (faults.Damaged damage) = Damaged damage
 edit_fault faults.OutOfMemory = OutOfMemory
 
--- Failed comes only where the faults of the object below rose, and Damaged only where nothing is told or of a rule that is broken, by the
--- records and the table as they were, in what the edit reaches.
-abbrev pub ExplainsEdit : Edit → ℕ → Option (RecordMap NodeRecord) → List PathRow → Type 0 → EditFault → Type 0
-ExplainsEdit edit next told table rose (Refused refusal) = Unit {0}
-ExplainsEdit edit next told table rose Failed = rose
-ExplainsEdit edit next told table rose (Damaged damage) = IsDamage edit next told table damage
-ExplainsEdit edit next told table rose OutOfMemory = Unit {0}
+-- Failed comes only where the faults of the object below rose, and Damaged only with a damage of that object, or of a rule that is broken, by
+-- the records and the table as they were, in what the edit reaches.
+abbrev pub ExplainsEdit : Edit → ℕ → Option (RecordMap NodeRecord) → List PathRow → (Damage → Type 0) → Type 0 → EditFault → Type 0
+ExplainsEdit edit next told table below rose (Refused refusal) = Unit {0}
+ExplainsEdit edit next told table below rose Failed = rose
+ExplainsEdit edit next told table below rose (Damaged damage) = IsDamage edit next told table below damage
+ExplainsEdit edit next told table below rose OutOfMemory = Unit {0}
 
 -- A damage is told of a path that a node needs, and nothing failed.
 abbrev pub IsBreachEdit : Option (RecordMap NodeRecord) → List PathRow → Reach → EditFault → Type 0

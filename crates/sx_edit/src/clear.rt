@@ -68,14 +68,14 @@ pub(crate) fn clear<N: RecordsMut<NodeRecord>>(
     ensures gets { IfOk result (λ gone. N.gets nodes.new ≤ N.gets nodes.old + length gone.items) }
     ensures same { N.told nodes.new ≡ N.told nodes.old }
     ensures same_mark { paths.new.marked ≡ paths.old.marked }
-    ensures goes_on { GoesOn N.told N.faults N.has_mark N.marks nodes.old nodes.new }
+    ensures goes_on { GoesOn N.told N.faults N.damages N.has_mark N.marks nodes.old nodes.new }
     ensures drifts { OnOk result ((visited : List TheRecord)
         × (Walks preorder (N.told nodes.old) (first_tops first) visited []
         × Drifts 0 (paths_left visited) paths.old.paths paths.new.paths)) }
     ensures fault { (reach : Reach) (own : TheRecord) → reach.next ≡ next
         → IsRecord (N.told nodes.old) reach.node own → own.first ≡ first
         → IfErr result (ExplainsBoth reach (N.told nodes.old) paths.old.paths
-        (Rose (N.faults nodes.old) (N.faults nodes.new))) }
+        (N.damages nodes.old) (Rose (N.faults nodes.old) (N.faults nodes.new))) }
 {
     let mut gone: Vec<u32> = Vec::new(alloc);
     let mut left: Vec<Link> = Vec::new(alloc);

@@ -31,8 +31,8 @@ fn ascend<N: RecordsMut<NodeRecord>>(
     ensures gets { IfOk result (λ ascent. N.gets nodes.new ≤ N.gets nodes.old + length ascent.seen.items) }
     ensures cannot { IfErr result (λ fault. IsDamaged fault → CountsLevels node next (N.told nodes.old) None) }
     ensures same { N.told nodes.new ≡ N.told nodes.old }
-    ensures goes_on { GoesOn N.told N.faults N.has_mark N.marks nodes.old nodes.new }
-    ensures fault { IfErr result (Explains next (N.told nodes.old) (Rose (N.faults nodes.old) (N.faults nodes.new))) }
+    ensures goes_on { GoesOn N.told N.faults N.damages N.has_mark N.marks nodes.old nodes.new }
+    ensures fault { IfErr result (Explains next (N.told nodes.old) (N.damages nodes.old) (Rose (N.faults nodes.old) (N.faults nodes.new))) }
 {
     let mut seen: Vec<Seen> = Vec::new(alloc);
     let mut count = 0;
@@ -80,8 +80,8 @@ pub(crate) fn climb<N: RecordsMut<NodeRecord>>(
     ensures gets { IfOk result (λ ascent. N.gets nodes.new ≤ N.gets nodes.old + length ascent.seen.items) }
     ensures cannot { IfErr result (λ fault. IsDamaged fault → CountsLevels node next (N.told nodes.old) None) }
     ensures same { N.told nodes.new ≡ N.told nodes.old }
-    ensures goes_on { GoesOn N.told N.faults N.has_mark N.marks nodes.old nodes.new }
-    ensures fault { IfErr result (Explains next (N.told nodes.old) (Rose (N.faults nodes.old) (N.faults nodes.new))) }
+    ensures goes_on { GoesOn N.told N.faults N.damages N.has_mark N.marks nodes.old nodes.new }
+    ensures fault { IfErr result (Explains next (N.told nodes.old) (N.damages nodes.old) (Rose (N.faults nodes.old) (N.faults nodes.new))) }
 {
     let ascent = ascend(alloc, nodes, next, from, node)?;
     let mut seen = ascent.seen;
@@ -104,8 +104,8 @@ fn sight<N: RecordsMut<NodeRecord>>(
     ensures cannot { IfErr result (λ fault. IsDamaged fault → IsNoSight (N.told nodes.old) node) }
     ensures gets { N.gets nodes.new ≤ N.gets nodes.old + 1 }
     ensures same { N.told nodes.new ≡ N.told nodes.old }
-    ensures goes_on { GoesOn N.told N.faults N.has_mark N.marks nodes.old nodes.new }
-    ensures fault { (next : ℕ) → IfErr result (Explains next (N.told nodes.old) (Rose (N.faults nodes.old)
+    ensures goes_on { GoesOn N.told N.faults N.damages N.has_mark N.marks nodes.old nodes.new }
+    ensures fault { (next : ℕ) → IfErr result (Explains next (N.told nodes.old) (N.damages nodes.old) (Rose (N.faults nodes.old)
         (N.faults nodes.new))) }
 {
     let Some(number) = node else {
@@ -133,8 +133,8 @@ pub(crate) fn survey<N: RecordsMut<NodeRecord>>(
     ensures gets { IfOk result (λ rim. N.gets nodes.new ≤ N.gets nodes.old + (3 + length rim.above.items)) }
     ensures cannot { IfErr result (λ fault. IsDamaged fault → CannotSurvey next gap (N.told nodes.old)) }
     ensures same { N.told nodes.new ≡ N.told nodes.old }
-    ensures goes_on { GoesOn N.told N.faults N.has_mark N.marks nodes.old nodes.new }
-    ensures fault { IfErr result (Explains next (N.told nodes.old) (Rose (N.faults nodes.old) (N.faults nodes.new))) }
+    ensures goes_on { GoesOn N.told N.faults N.damages N.has_mark N.marks nodes.old nodes.new }
+    ensures fault { IfErr result (Explains next (N.told nodes.old) (N.damages nodes.old) (Rose (N.faults nodes.old) (N.faults nodes.new))) }
 {
     let left = sight(alloc, nodes, gap.near, gap.left)?;
     let right = sight(alloc, nodes, gap.near, gap.right)?;

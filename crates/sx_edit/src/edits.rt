@@ -38,6 +38,7 @@ fn settle<N: RecordsMut<NodeRecord>>(
     ensures undone_paths { OnErr result (paths.old.marked ≡ Some paths.new.paths) }
     ensures no_mark { IsFalse (N.has_mark nodes.new) }
     ensures no_mark_of_paths { paths.new.marked ≡ None }
+    ensures same_base { N.same_base nodes.old nodes.new }
     ensures same_gets { N.gets nodes.new ≡ N.gets nodes.old }
     ensures never_falls { N.faults nodes.old ≤ N.faults nodes.new }
 {
@@ -73,9 +74,9 @@ fn change<N: RecordsMut<NodeRecord>>(
     ensures work { OnOk result (GetsAtMost (edit_of edit.now) next (N.told nodes.old)
         (N.gets nodes.old) (N.gets nodes.new)) }
     ensures same_mark { paths.new.marked ≡ paths.old.marked }
-    ensures goes_on { GoesOn N.told N.faults N.has_mark N.marks nodes.old nodes.new }
+    ensures goes_on { GoesOn N.told N.faults N.damages N.has_mark N.marks nodes.old nodes.new }
     ensures fault { IfErr result (ExplainsEdit (edit_of edit.now) next (N.told nodes.old) paths.old.paths
-        (Rose (N.faults nodes.old) (N.faults nodes.new))) }
+        (N.damages nodes.old) (Rose (N.faults nodes.old) (N.faults nodes.new))) }
 {
     match edit {
         Edit::Load { value } => load(alloc, nodes, paths, had, next, value),
@@ -108,8 +109,9 @@ fn change<N: RecordsMut<NodeRecord>>(
 /// 256 arrays and objects would nest; `NumbersSpent` where new nodes need numbers of 1,073,741,824 and above;
 /// `NameMissing` for a member of an object without a name; `NameUnasked` for a name anywhere else; `PathsSpent`, with
 /// how many paths there are, where new ones need numbers of 1,073,741,824 and above. `Failed` only where the faults
-/// of the object below rose; `Damaged` where the records and paths are those of no document, and never over those of
-/// one; `OutOfMemory`. After each error records and paths are as they were, without a mark.
+/// of the object below rose; `Damaged` with a damage of that object, or where the records and paths are those of no document, and
+/// never over those of one; `OutOfMemory`. After each error records and paths are as they were, without a mark. Whatever comes, the
+/// records stand over the same object as before.
 pub fn apply<N: RecordsMut<NodeRecord>>(
     alloc: Global,
     nodes: &mut N,
@@ -130,8 +132,10 @@ pub fn apply<N: RecordsMut<NodeRecord>>(
     ensures unchanged_paths { OnErr result (paths.new.paths ≡ paths.old.paths) }
     ensures no_mark { IsFalse (N.has_mark nodes.new) }
     ensures no_mark_of_paths { paths.new.marked ≡ None }
+    ensures same_base { N.same_base nodes.old nodes.new }
+    ensures never_falls { N.faults nodes.old ≤ N.faults nodes.new }
     ensures fault { IfErr result (ExplainsEdit (edit_of edit.now) next (N.told nodes.old) paths.old.paths
-        (Rose (N.faults nodes.old) (N.faults nodes.new))) }
+        (N.damages nodes.old) (Rose (N.faults nodes.old) (N.faults nodes.new))) }
 {
     let had = paths.len();
     nodes.begin();

@@ -56,7 +56,7 @@ fn enter<N: RecordsMut<NodeRecord>>(
         → IfErr result (IsBreachEdit o table reach) }
     ensures same_gets { N.gets nodes.new ≡ N.gets nodes.old }
     ensures same_mark { paths.new.marked ≡ paths.old.marked }
-    ensures goes_on { GoesOn N.told N.faults N.has_mark N.marks nodes.old nodes.new }
+    ensures goes_on { GoesOn N.told N.faults N.damages N.has_mark N.marks nodes.old nodes.new }
 {
     match name {
         None => grow(alloc, nodes, paths, had, value, next, path),
@@ -97,7 +97,7 @@ pub(crate) fn fill<N: RecordsMut<NodeRecord>>(
         (enters (option_copied name.entry) (value_of value.now) path had)
         (kept (N.told nodes.old) paths.old.paths)) }
     ensures same_mark { paths.new.marked ≡ paths.old.marked }
-    ensures goes_on { GoesOn N.told N.faults N.has_mark N.marks nodes.old nodes.new }
+    ensures goes_on { GoesOn N.told N.faults N.damages N.has_mark N.marks nodes.old nodes.new }
     ensures same_gets { N.gets nodes.new ≡ N.gets nodes.old }
     ensures fault { (o : Option (RecordMap TheRecord)) (table : List PathRow) (reach : Reach) (minus : List ℕ)
         → reach.next ≡ next → reach.more ≡ entering_nodes (option_copied name.entry) (value_of value.now)

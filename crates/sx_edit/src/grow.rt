@@ -88,7 +88,7 @@ fn hang<N: RecordsMut<NodeRecord>>(
           (only_if more (parent + 1 + children.nodes + (child.descendants + 1))) (row_of child),
     ) ∷ []) (N.told nodes.old) (N.told nodes.new)) }
     ensures same_gets { N.gets nodes.new ≡ N.gets nodes.old }
-    ensures goes_on { GoesOn N.told N.faults N.has_mark N.marks nodes.old nodes.new }
+    ensures goes_on { GoesOn N.told N.faults N.damages N.has_mark N.marks nodes.old nodes.new }
 {
     let number = parent + 1 + children.nodes;
     let right = asked(more, number + (child.descendants + 1));
@@ -136,7 +136,7 @@ pub(crate) fn grow<N: RecordsMut<NodeRecord>>(
         → IfErr result (IsBreachEdit o table reach) }
     ensures same_mark { paths.new.marked ≡ paths.old.marked }
     ensures same_gets { N.gets nodes.new ≡ N.gets nodes.old }
-    ensures goes_on { GoesOn N.told N.faults N.has_mark N.marks nodes.old nodes.new }
+    ensures goes_on { GoesOn N.told N.faults N.damages N.has_mark N.marks nodes.old nodes.new }
 {
     count_in(paths, number, path)?;
     match value {
@@ -189,7 +189,7 @@ fn grow_items<N: RecordsMut<NodeRecord>>(
         → IfErr result (IsBreachEdit o table reach) }
     ensures same_mark { paths.new.marked ≡ paths.old.marked }
     ensures same_gets { N.gets nodes.new ≡ N.gets nodes.old }
-    ensures goes_on { GoesOn N.told N.faults N.has_mark N.marks nodes.old nodes.new }
+    ensures goes_on { GoesOn N.told N.faults N.damages N.has_mark N.marks nodes.old nodes.new }
 {
     let mut children = no_children();
     for (place, value) in values.iter().enumerate() {
@@ -233,7 +233,7 @@ fn grow_members<N: RecordsMut<NodeRecord>>(
         → IfErr result (IsBreachEdit o table reach) }
     ensures same_mark { paths.new.marked ≡ paths.old.marked }
     ensures same_gets { N.gets nodes.new ≡ N.gets nodes.old }
-    ensures goes_on { GoesOn N.told N.faults N.has_mark N.marks nodes.old nodes.new }
+    ensures goes_on { GoesOn N.told N.faults N.damages N.has_mark N.marks nodes.old nodes.new }
 {
     let names = members.names();
     let values = members.values();
@@ -265,7 +265,7 @@ pub(crate) fn key_over<N: RecordsMut<NodeRecord>>(
     ensures added { OnOk result (IsAdded ((number + 1, linked number None None (row_of value)) ∷ [])
         (N.told nodes.old) (N.told nodes.new)) }
     ensures same_gets { N.gets nodes.new ≡ N.gets nodes.old }
-    ensures goes_on { GoesOn N.told N.faults N.has_mark N.marks nodes.old nodes.new }
+    ensures goes_on { GoesOn N.told N.faults N.damages N.has_mark N.marks nodes.old nodes.new }
 {
     let path = value.path;
     let below = hang(alloc, nodes, number, no_children(), value, false)?;

@@ -51,8 +51,8 @@ fn taken_name<N: RecordsMut<NodeRecord>>(
         → FindsTaken next target (option_copied name.entry) (N.told nodes.old) None) }
     ensures work { OnOk result (GetsChildren next target (N.told nodes.old) (N.gets nodes.old) (N.gets nodes.new)) }
     ensures same { N.told nodes.new ≡ N.told nodes.old }
-    ensures goes_on { GoesOn N.told N.faults N.has_mark N.marks nodes.old nodes.new }
-    ensures fault { IfErr result (Explains next (N.told nodes.old) (Rose (N.faults nodes.old) (N.faults nodes.new))) }
+    ensures goes_on { GoesOn N.told N.faults N.damages N.has_mark N.marks nodes.old nodes.new }
+    ensures fault { IfErr result (Explains next (N.told nodes.old) (N.damages nodes.old) (Rose (N.faults nodes.old) (N.faults nodes.new))) }
 {
     let Some(asked) = name else {
         return Ok(None);
@@ -90,9 +90,9 @@ fn check_children<N: RecordsMut<NodeRecord>>(
     ensures checks { ChecksChildren next target (option_copied name.entry) (N.told nodes.old) result }
     ensures work { OnOk result (GetsChildren next target (N.told nodes.old) (N.gets nodes.old) (N.gets nodes.new)) }
     ensures same { N.told nodes.new ≡ N.told nodes.old }
-    ensures goes_on { GoesOn N.told N.faults N.has_mark N.marks nodes.old nodes.new }
+    ensures goes_on { GoesOn N.told N.faults N.damages N.has_mark N.marks nodes.old nodes.new }
     ensures fault { (edit : model.Edit) (table : List PathRow) → IfErr result (ExplainsEdit edit next (N.told nodes.old) table
-        (Rose (N.faults nodes.old) (N.faults nodes.new))) }
+        (N.damages nodes.old) (Rose (N.faults nodes.old) (N.faults nodes.new))) }
 {
     if let Some(node) = taken_name(alloc, nodes, next, target, name)? {
         return Err(EditFault::Refused(EditRefusal::NameTaken { node }));
@@ -180,10 +180,10 @@ pub(crate) fn insert<N: RecordsMut<NodeRecord>>(
     ensures work { OnOk result (GetsAtMost (model.insert place (option_copied name.entry) (value_of value.now)) next
         (N.told nodes.old) (N.gets nodes.old) (N.gets nodes.new)) }
     ensures same_mark { paths.new.marked ≡ paths.old.marked }
-    ensures goes_on { GoesOn N.told N.faults N.has_mark N.marks nodes.old nodes.new }
+    ensures goes_on { GoesOn N.told N.faults N.damages N.has_mark N.marks nodes.old nodes.new }
     ensures fault { IfErr result (ExplainsEdit
         (model.insert place (option_copied name.entry) (value_of value.now)) next (N.told nodes.old) paths.old.paths
-        (Rose (N.faults nodes.old) (N.faults nodes.new))) }
+        (N.damages nodes.old) (Rose (N.faults nodes.old) (N.faults nodes.new))) }
 {
     let target = target_of(alloc, nodes, next, place)?;
     check_children(alloc, nodes, next, target, name)?;

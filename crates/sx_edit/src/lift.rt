@@ -52,7 +52,7 @@ pub(crate) fn lift<N: RecordsMut<NodeRecord>>(
         → CannotLift (upward left.items) shift.plus shift.minus) }
     ensures level { shift.plus ≡ 0 → shift.minus ≡ 0 → IfErr result (λ fault. fault ≡ OutOfMemory) }
     ensures same_gets { N.gets nodes.new ≡ N.gets nodes.old }
-    ensures goes_on { GoesOn N.told N.faults N.has_mark N.marks nodes.old nodes.new }
+    ensures goes_on { GoesOn N.told N.faults N.damages N.has_mark N.marks nodes.old nodes.new }
     ensures fault { (o : Option (RecordMap TheRecord)) (reach : Reach) → shift.plus ≡ reach.more
         → AreCounted o reach shift.minus left.items → IfErr result (IsMiscountedAtMost o reach) }
 {

@@ -35,9 +35,9 @@ fn document_child<N: RecordsMut<NodeRecord>>(
         (λ records. child ≡ option_and_then (λ r. r.first) (map.get records 0))) }
     ensures gets { N.gets nodes.new ≤ N.gets nodes.old + 1 }
     ensures same { N.told nodes.new ≡ N.told nodes.old }
-    ensures goes_on { GoesOn N.told N.faults N.has_mark N.marks nodes.old nodes.new }
+    ensures goes_on { GoesOn N.told N.faults N.damages N.has_mark N.marks nodes.old nodes.new }
     ensures fault { (next : ℕ) → IfErr result
-        (Explains next (N.told nodes.old) (Rose (N.faults nodes.old) (N.faults nodes.new))) }
+        (Explains next (N.told nodes.old) (N.damages nodes.old) (Rose (N.faults nodes.old) (N.faults nodes.new))) }
     ensures untold { IfErr result (λ fault. IsDamaged fault → N.told nodes.old ≡ None) }
 {
     match read(alloc, nodes, DOCUMENT)? {
@@ -63,10 +63,10 @@ pub(crate) fn load<N: RecordsMut<NodeRecord>>(
     ensures work { OnOk result (GetsAtMost (model.load (value_of value.now)) next (N.told nodes.old)
         (N.gets nodes.old) (N.gets nodes.new)) }
     ensures same_mark { paths.new.marked ≡ paths.old.marked }
-    ensures goes_on { GoesOn N.told N.faults N.has_mark N.marks nodes.old nodes.new }
+    ensures goes_on { GoesOn N.told N.faults N.damages N.has_mark N.marks nodes.old nodes.new }
     ensures fault { IfErr result (ExplainsEdit (model.load (value_of value.now)) next
         (N.told nodes.old) paths.old.paths
-        (Rose (N.faults nodes.old) (N.faults nodes.new))) }
+        (N.damages nodes.old) (Rose (N.faults nodes.old) (N.faults nodes.new))) }
 {
     match document_child(alloc, nodes)? {
         Some(child) => replace(alloc, nodes, paths, had, next, child, value),

@@ -31,7 +31,7 @@ fn link_right<N: RecordsMut<NodeRecord>>(
     ensures done { OnOk result (IsChanged (option_map entry_of node) (λ w. record w { right = right })
         (N.told nodes.old) (N.told nodes.new)) }
     ensures same_gets { N.gets nodes.new ≡ N.gets nodes.old }
-    ensures goes_on { GoesOn N.told N.faults N.has_mark N.marks nodes.old nodes.new }
+    ensures goes_on { GoesOn N.told N.faults N.damages N.has_mark N.marks nodes.old nodes.new }
 {
     let Some(seen) = node else {
         return Ok(());
@@ -52,7 +52,7 @@ fn link_left<N: RecordsMut<NodeRecord>>(
     ensures done { OnOk result (IsChanged (option_map entry_of node) (λ w. record w { left = left })
         (N.told nodes.old) (N.told nodes.new)) }
     ensures same_gets { N.gets nodes.new ≡ N.gets nodes.old }
-    ensures goes_on { GoesOn N.told N.faults N.has_mark N.marks nodes.old nodes.new }
+    ensures goes_on { GoesOn N.told N.faults N.damages N.has_mark N.marks nodes.old nodes.new }
 {
     let Some(seen) = node else {
         return Ok(());
@@ -149,7 +149,7 @@ pub(crate) fn mend<N: RecordsMut<NodeRecord>>(
     ensures cannot { (next : ℕ) → IfErr result (λ fault. IsDamaged fault
         → IsMended next gap rim old new (N.told nodes.old) None) }
     ensures same_gets { N.gets nodes.new ≡ N.gets nodes.old }
-    ensures goes_on { GoesOn N.told N.faults N.has_mark N.marks nodes.old nodes.new }
+    ensures goes_on { GoesOn N.told N.faults N.damages N.has_mark N.marks nodes.old nodes.new }
     ensures fault { (o : Option (RecordMap TheRecord)) (reach : Reach) → nodes_of_tree new ≡ reach.more
         → IsLeaving o reach gap.parent old → IsRim o gap rim → IfErr result (IsMiscountedAtMost o reach) }
 {

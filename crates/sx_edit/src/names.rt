@@ -39,8 +39,8 @@ pub(crate) fn find_key<N: RecordsMut<NodeRecord>>(
         → FindsKey except name.now first next (N.told nodes.old) None) }
     ensures work { OnOk result (GetsKeys first next (N.told nodes.old) (N.gets nodes.old) (N.gets nodes.new)) }
     ensures same { N.told nodes.new ≡ N.told nodes.old }
-    ensures goes_on { GoesOn N.told N.faults N.has_mark N.marks nodes.old nodes.new }
-    ensures fault { IfErr result (Explains next (N.told nodes.old) (Rose (N.faults nodes.old) (N.faults nodes.new))) }
+    ensures goes_on { GoesOn N.told N.faults N.damages N.has_mark N.marks nodes.old nodes.new }
+    ensures fault { IfErr result (Explains next (N.told nodes.old) (N.damages nodes.old) (Rose (N.faults nodes.old) (N.faults nodes.new))) }
 {
     let mut from = parent;
     let mut at = first;

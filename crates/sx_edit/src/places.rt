@@ -87,9 +87,9 @@ fn below<N: RecordsMut<NodeRecord>>(
     ensures gets { N.gets nodes.new ≤ N.gets nodes.old + 2 }
     ensures none { IfErr result (IsNoPlace (place_below last node) next (N.told nodes.old)) }
     ensures same { N.told nodes.new ≡ N.told nodes.old }
-    ensures goes_on { GoesOn N.told N.faults N.has_mark N.marks nodes.old nodes.new }
+    ensures goes_on { GoesOn N.told N.faults N.damages N.has_mark N.marks nodes.old nodes.new }
     ensures fault { (edit : model.Edit) (table : List PathRow) → IfErr result (ExplainsEdit edit next (N.told nodes.old) table
-        (Rose (N.faults nodes.old) (N.faults nodes.new))) }
+        (N.damages nodes.old) (Rose (N.faults nodes.old) (N.faults nodes.new))) }
 {
     if node >= next {
         return Err(EditFault::Refused(EditRefusal::NoNode { node }));
@@ -128,9 +128,9 @@ fn beside<N: RecordsMut<NodeRecord>>(
     ensures gets { N.gets nodes.new ≤ N.gets nodes.old + 2 }
     ensures none { IfErr result (IsNoPlace (place_beside after node) next (N.told nodes.old)) }
     ensures same { N.told nodes.new ≡ N.told nodes.old }
-    ensures goes_on { GoesOn N.told N.faults N.has_mark N.marks nodes.old nodes.new }
+    ensures goes_on { GoesOn N.told N.faults N.damages N.has_mark N.marks nodes.old nodes.new }
     ensures fault { (edit : model.Edit) (table : List PathRow) → IfErr result (ExplainsEdit edit next (N.told nodes.old) table
-        (Rose (N.faults nodes.old) (N.faults nodes.new))) }
+        (N.damages nodes.old) (Rose (N.faults nodes.old) (N.faults nodes.new))) }
 {
     if node >= next {
         return Err(EditFault::Refused(EditRefusal::NoNode { node }));
@@ -172,9 +172,9 @@ pub(crate) fn target_of<N: RecordsMut<NodeRecord>>(
     ensures gets { N.gets nodes.new ≤ N.gets nodes.old + 2 }
     ensures none { IfErr result (IsNoPlace place next (N.told nodes.old)) }
     ensures same { N.told nodes.new ≡ N.told nodes.old }
-    ensures goes_on { GoesOn N.told N.faults N.has_mark N.marks nodes.old nodes.new }
+    ensures goes_on { GoesOn N.told N.faults N.damages N.has_mark N.marks nodes.old nodes.new }
     ensures fault { (edit : model.Edit) (table : List PathRow) → IfErr result (ExplainsEdit edit next (N.told nodes.old) table
-        (Rose (N.faults nodes.old) (N.faults nodes.new))) }
+        (N.damages nodes.old) (Rose (N.faults nodes.old) (N.faults nodes.new))) }
 {
     match place {
         Place::First(node) => below(alloc, nodes, next, node, false),

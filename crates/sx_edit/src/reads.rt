@@ -28,9 +28,9 @@ pub(crate) fn read<N: RecordsMut<NodeRecord>>(
 ) -> Result<Option<NodeRecord>, Fault>
     ensures found { IfOk result (λ found. ForSome (N.told nodes.old) (λ records. found ≡ map.get records node)) }
     ensures same { N.told nodes.new ≡ N.told nodes.old }
-    ensures goes_on { GoesOn N.told N.faults N.has_mark N.marks nodes.old nodes.new }
+    ensures goes_on { GoesOn N.told N.faults N.damages N.has_mark N.marks nodes.old nodes.new }
     ensures gets { N.gets nodes.new ≤ N.gets nodes.old + 1 }
-    ensures fault { (next : ℕ) → IfErr result (Explains next (N.told nodes.old) (Rose (N.faults nodes.old)
+    ensures fault { (next : ℕ) → IfErr result (Explains next (N.told nodes.old) (N.damages nodes.old) (Rose (N.faults nodes.old)
         (N.faults nodes.new))) }
     ensures untold { IfErr result (λ fault. IsDamaged fault → N.told nodes.old ≡ None) }
 {
@@ -47,9 +47,9 @@ pub(crate) fn read_linked<N: RecordsMut<NodeRecord>>(
     requires { IsReached (N.told nodes.old) from to }
     ensures found { IfOk result (λ found. IsRecord (N.told nodes.old) to found) }
     ensures same { N.told nodes.new ≡ N.told nodes.old }
-    ensures goes_on { GoesOn N.told N.faults N.has_mark N.marks nodes.old nodes.new }
+    ensures goes_on { GoesOn N.told N.faults N.damages N.has_mark N.marks nodes.old nodes.new }
     ensures gets { N.gets nodes.new ≤ N.gets nodes.old + 1 }
-    ensures fault { (next : ℕ) → IfErr result (Explains next (N.told nodes.old) (Rose (N.faults nodes.old)
+    ensures fault { (next : ℕ) → IfErr result (Explains next (N.told nodes.old) (N.damages nodes.old) (Rose (N.faults nodes.old)
         (N.faults nodes.new))) }
     ensures absent { IfErr result (λ fault. IsDamaged fault → IsAbsent (N.told nodes.old) to) }
 {
@@ -69,7 +69,7 @@ pub(crate) fn write<N: RecordsMut<NodeRecord>>(
     ensures ok { OnOk result (N.told nodes.new ≡ option_map (λ records. map.insert records node entry)
         (N.told nodes.old)) }
     ensures same_gets { N.gets nodes.new ≡ N.gets nodes.old }
-    ensures goes_on { GoesOn N.told N.faults N.has_mark N.marks nodes.old nodes.new }
+    ensures goes_on { GoesOn N.told N.faults N.damages N.has_mark N.marks nodes.old nodes.new }
 {
     nodes.put(alloc, node, entry)
 }
@@ -82,7 +82,7 @@ pub(crate) fn write_all<N: RecordsMut<NodeRecord>>(
 ) -> Result<(), AllocError>
     ensures ok { OnOk result (N.told nodes.new ≡ option_map (with_records left.items) (N.told nodes.old)) }
     ensures same_gets { N.gets nodes.new ≡ N.gets nodes.old }
-    ensures goes_on { GoesOn N.told N.faults N.has_mark N.marks nodes.old nodes.new }
+    ensures goes_on { GoesOn N.told N.faults N.damages N.has_mark N.marks nodes.old nodes.new }
 {
     while let Some(seen) = left.pop() {
         write(alloc, nodes, seen.node, seen.record)?;
@@ -98,7 +98,7 @@ pub(crate) fn erase_all<N: RecordsMut<NodeRecord>>(
 ) -> Result<(), AllocError>
     ensures ok { OnOk result (N.told nodes.new ≡ option_map (without left.items) (N.told nodes.old)) }
     ensures same_gets { N.gets nodes.new ≡ N.gets nodes.old }
-    ensures goes_on { GoesOn N.told N.faults N.has_mark N.marks nodes.old nodes.new }
+    ensures goes_on { GoesOn N.told N.faults N.damages N.has_mark N.marks nodes.old nodes.new }
 {
     while let Some(node) = left.pop() {
         erase(alloc, nodes, node)?;
@@ -114,7 +114,7 @@ fn erase<N: RecordsMut<NodeRecord>>(
 ) -> Result<(), AllocError>
     ensures ok { OnOk result (N.told nodes.new ≡ option_map (λ records. map.remove records node) (N.told nodes.old)) }
     ensures same_gets { N.gets nodes.new ≡ N.gets nodes.old }
-    ensures goes_on { GoesOn N.told N.faults N.has_mark N.marks nodes.old nodes.new }
+    ensures goes_on { GoesOn N.told N.faults N.damages N.has_mark N.marks nodes.old nodes.new }
 {
     nodes.drop_record(alloc, node)
 }
@@ -128,7 +128,7 @@ pub(crate) fn add<N: RecordsMut<NodeRecord>>(
 ) -> Result<(), AllocError>
     ensures added { OnOk result (IsAdded ((node, row_of entry) ∷ []) (N.told nodes.old) (N.told nodes.new)) }
     ensures same_gets { N.gets nodes.new ≡ N.gets nodes.old }
-    ensures goes_on { GoesOn N.told N.faults N.has_mark N.marks nodes.old nodes.new }
+    ensures goes_on { GoesOn N.told N.faults N.damages N.has_mark N.marks nodes.old nodes.new }
 {
     nodes.put(alloc, node, entry)
 }

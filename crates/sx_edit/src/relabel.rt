@@ -32,7 +32,7 @@ pub(crate) fn relabel<N: RecordsMut<NodeRecord>>(
     ensures done { OnOk result (IsRelabeled node label.kind label.text path (upward above.items) (N.told nodes.old)
         (N.told nodes.new)) }
     ensures same_gets { N.gets nodes.new ≡ N.gets nodes.old }
-    ensures goes_on { GoesOn N.told N.faults N.has_mark N.marks nodes.old nodes.new }
+    ensures goes_on { GoesOn N.told N.faults N.damages N.has_mark N.marks nodes.old nodes.new }
     ensures memory { IfErr result (λ fault. fault ≡ OutOfMemory) }
 {
     let before = local(entry.kind, entry.label.as_bytes());

@@ -65,9 +65,9 @@ pub(crate) fn remove<N: RecordsMut<NodeRecord>>(
     ensures work { OnOk result (GetsAtMost (model.remove node) next (N.told nodes.old)
         (N.gets nodes.old) (N.gets nodes.new)) }
     ensures same_mark { paths.new.marked ≡ paths.old.marked }
-    ensures goes_on { GoesOn N.told N.faults N.has_mark N.marks nodes.old nodes.new }
+    ensures goes_on { GoesOn N.told N.faults N.damages N.has_mark N.marks nodes.old nodes.new }
     ensures fault { IfErr result (ExplainsEdit (model.remove node) next (N.told nodes.old) paths.old.paths
-        (Rose (N.faults nodes.old) (N.faults nodes.new))) }
+        (N.damages nodes.old) (Rose (N.faults nodes.old) (N.faults nodes.new))) }
 {
     let Some(entry) = read(alloc, nodes, node)? else {
         return Err(EditFault::Refused(EditRefusal::NoNode { node }));
@@ -124,13 +124,13 @@ pub(crate) fn uproot<N: RecordsMut<NodeRecord>>(
     ensures gets { IfOk result (λ gone. N.gets nodes.new + 1 ≤ N.gets nodes.old + length gone.items) }
     ensures same { N.told nodes.new ≡ N.told nodes.old }
     ensures same_mark { paths.new.marked ≡ paths.old.marked }
-    ensures goes_on { GoesOn N.told N.faults N.has_mark N.marks nodes.old nodes.new }
+    ensures goes_on { GoesOn N.told N.faults N.damages N.has_mark N.marks nodes.old nodes.new }
     ensures drifts { OnOk result ((visited : List TheRecord)
         × (Walks preorder (N.told nodes.old) (first_tops entry.now.first) visited []
         × Drifts 0 (paths_left visited ++ path_left entry.now) paths.old.paths paths.new.paths)) }
     ensures fault { (reach : Reach) → reach.next ≡ next → reach.node ≡ node
         → IfErr result (ExplainsBoth reach (N.told nodes.old) paths.old.paths
-        (Rose (N.faults nodes.old) (N.faults nodes.new))) }
+        (N.damages nodes.old) (Rose (N.faults nodes.old) (N.faults nodes.new))) }
 {
     let mut gone = clear(alloc, nodes, paths, next, node, entry.first)?;
     leave_path(paths, node, entry)?;

@@ -145,11 +145,11 @@ pub(crate) fn repath<N: RecordsMut<NodeRecord>>(
     ensures gets { IfOk result (λ moved. N.gets nodes.new ≤ N.gets nodes.old + length moved.items) }
     ensures same { N.told nodes.new ≡ N.told nodes.old }
     ensures same_mark { paths.new.marked ≡ paths.old.marked }
-    ensures goes_on { GoesOn N.told N.faults N.has_mark N.marks nodes.old nodes.new }
+    ensures goes_on { GoesOn N.told N.faults N.damages N.has_mark N.marks nodes.old nodes.new }
     ensures fault { (table : List PathRow) (name : List ℕ) (own : TheRecord) → IsRecord (N.told nodes.old) node own
         → own.first ≡ first → IsThere paths.old.paths over.path → Drifts 0 [] table paths.old.paths → next ≤ 2 ^ 30
         → IfErr result (ExplainsEdit (model.rename node name) next (N.told nodes.old) table
-        (Rose (N.faults nodes.old) (N.faults nodes.new))) }
+        (N.damages nodes.old) (Rose (N.faults nodes.old) (N.faults nodes.new))) }
 {
     let mut moved: Vec<Seen> = Vec::new(alloc);
     let mut left: Vec<Move> = Vec::new(alloc);

@@ -41,10 +41,10 @@ pub(crate) fn replace<N: RecordsMut<NodeRecord>>(
     ensures work { OnOk result (GetsAtMost (model.replace node (value_of value.now)) next (N.told nodes.old)
         (N.gets nodes.old) (N.gets nodes.new)) }
     ensures same_mark { paths.new.marked ≡ paths.old.marked }
-    ensures goes_on { GoesOn N.told N.faults N.has_mark N.marks nodes.old nodes.new }
+    ensures goes_on { GoesOn N.told N.faults N.damages N.has_mark N.marks nodes.old nodes.new }
     ensures fault { IfErr result (ExplainsEdit (model.replace node (value_of value.now)) next
         (N.told nodes.old) paths.old.paths
-        (Rose (N.faults nodes.old) (N.faults nodes.new))) }
+        (N.damages nodes.old) (Rose (N.faults nodes.old) (N.faults nodes.new))) }
 {
     let Some(entry) = read(alloc, nodes, node)? else {
         return Err(EditFault::Refused(EditRefusal::NoNode { node }));

@@ -36,10 +36,10 @@ pub(crate) fn set_scalar<N: RecordsMut<NodeRecord>>(
     ensures gets { OnOk result (GetsFew node next (N.told nodes.old) (N.gets nodes.old) (N.gets nodes.new)) }
     ensures work { OnOk result (GetsAtMost (model.set_scalar node value.now) next (N.told nodes.old)
         (N.gets nodes.old) (N.gets nodes.new)) }
-    ensures goes_on { GoesOn N.told N.faults N.has_mark N.marks nodes.old nodes.new }
+    ensures goes_on { GoesOn N.told N.faults N.damages N.has_mark N.marks nodes.old nodes.new }
     ensures fault { (table : List PathRow) → IfErr result (ExplainsEdit (model.set_scalar node value.now) next
         (N.told nodes.old) table
-        (Rose (N.faults nodes.old) (N.faults nodes.new))) }
+        (N.damages nodes.old) (Rose (N.faults nodes.old) (N.faults nodes.new))) }
 {
     let Some(entry) = read(alloc, nodes, node)? else {
         return Err(EditFault::Refused(EditRefusal::NoNode { node }));

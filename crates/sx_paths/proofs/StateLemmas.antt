@@ -12,11 +12,12 @@ use Rattle.sx_tree.specs.declared.record.Step.{Step}
 use Rattle.sx_model.specs.Paths.{count_on, number_of, same_path}
 use Rattle.sx_model.specs.Records.{PathRow, entry, path_row}
 use Rattle.sx_model.specs.State.{State}
-use Rattle.sx_view.specs.Records.{RecordMap}
+use Rattle.sx_view.specs.Records.{Explains, IsDamaged, RecordMap}
+use Rattle.sx_view.proofs.Failing.{err-damaged, undamaged, wider-rules}
 use Rattle.sx_view.specs.declared.fault.Fault.{Fault}
 use Rattle.sx_view.specs.declared.fault.Fault.TheVariants.{Failed, Damaged, OutOfMemory}
 use Rattle.sx_paths.specs.Listed.{AreListed, Extend, GoesOnFrom, IsBase, has_path, row_by}
-use Rattle.sx_paths.specs.Load.{Explains, HasBrokenPath, IsBrokenPath, IsDamaged, TellsFrom}
+use Rattle.sx_paths.specs.Load.{HasBrokenPath, IsBrokenPath, TellsFrom}
 use Rattle.sx_paths.specs.OfState.{AreNoPaths, AreRows, ShowsPaths, path_at}
 use Rattle.sx_paths.specs.Table.{row_of}
 use Rattle.sx_paths.proofs.Listing.{GoesOnFrom-more, empty-unlisted, number-kept, number-none, number-some, same_path-same}
@@ -134,26 +135,20 @@ pub untold : (state : State) (o : Option (RecordMap PathRecord)) → ShowsPaths 
 untold state None shows is = shows.holds
 untold state (Some records) shows is = cc
 
-pub sound-fault : (o : Option (RecordMap PathRecord)) (rose : Type 0) (count : ℕ) (fault : Fault) → Explains o rose (HasBrokenPath o count) fault → IsDamaged fault → AreNoPaths o count
+pub sound-fault : (o : Option (RecordMap PathRecord)) (below : Damage → Type 0) (rose : Type 0) (count : ℕ) (fault : Fault) → ((d : Damage) → below d → o ≡ None)
+    → Explains below rose (HasBrokenPath o count) fault → IsDamaged fault → AreNoPaths o count
 unfolding AreNoPaths
-sound-fault o rose count Failed why is = absurd is
-sound-fault o rose count OutOfMemory why is = absurd is
-sound-fault o rose count (Damaged damage) (inl none) is = λ state shows few. untold state o shows none
-sound-fault o rose count (Damaged damage) (inr broken) is =
-    λ state shows few. let within = broken.1.1 in unbroken o state broken.0 damage shows broken.1.0 (omega (arith, within, few)) broken.1.2
+sound-fault o below rose count fault none why is = undamaged below (HasBrokenPath o count) rose (AreNoPaths o count) fault
+    (λ d told state shows few. untold state o shows (none d told))
+    (λ d broken state shows few. let within = broken.1.1 in unbroken o state broken.0 d shows broken.1.0 (omega (arith, within, few)) broken.1.2) why is
 
 -- a fault of one path
-pub sound-after : {T : Type 0} (r : Result T Fault) (o mid : Option (RecordMap PathRecord)) (rose : Type 0) (path count : ℕ) (fault : Fault) → IsErrAnd r (λ e. e ≡ fault) → mid ≡ o
-    → 1 ≤ path → path ≤ count → Explains mid rose (IsBrokenPath mid path) fault → IfErr r (λ e. IsDamaged e → AreNoPaths o count)
-sound-after (Ok x) o mid rose path count fault is same some few why = absurd is
-sound-after (Err e) o mid rose path count fault is same some few why =
-    sound-fault o rose count e (one-of e (subst (λ x. Explains x rose (IsBrokenPath x path) e) same (subst (Explains mid rose (IsBrokenPath mid path)) (sym is) why)))
-  where
-    one-of : (e : Fault) → Explains o rose (IsBrokenPath o path) e → Explains o rose (HasBrokenPath o count) e
-    one-of Failed why = why
-    one-of OutOfMemory why = why
-    one-of (Damaged damage) (inl none) = inl none
-    one-of (Damaged damage) (inr broken) = inr (path, (some, few, broken))
+pub sound-after : {T : Type 0} (r : Result T Fault) (o mid : Option (RecordMap PathRecord)) (below : Damage → Type 0) (rose : Type 0) (path count : ℕ) (fault : Fault) → IsErrAnd r (λ e. e ≡ fault)
+    → mid ≡ o → ((d : Damage) → below d → mid ≡ None) → 1 ≤ path → path ≤ count → Explains below rose (IsBrokenPath mid path) fault → IfErr r (λ e. IsDamaged e → AreNoPaths o count)
+sound-after r o mid below rose path count fault is same none some few why =
+    err-damaged r (AreNoPaths o count) fault is
+    (λ damaged. sound-fault o below rose count fault (λ d told. sym same ∙ none d told)
+    (wider-rules below (λ d. IsBrokenPath mid path d) (HasBrokenPath o count) rose fault (λ d broken. (path, (some, few, subst (λ x. IsBrokenPath x path d) same broken))) why) damaged)
 
 -- ---- the table
 

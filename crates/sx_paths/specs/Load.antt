@@ -15,18 +15,6 @@ use Rattle.sx_paths.specs.Table.{row_of}
 abbrev pub broken_path : ℕ → Damage
 broken_path path = number_damage 0 BROKEN_PATH 0 path
 
--- Failed comes only where the faults of the object below rose, and damage is told only where the records are not, or of a
--- rule that is broken.
-abbrev pub Explains : {T : Type 0} → Option T → Type 0 → (Damage → Type 0) → Fault → Type 0
-Explains told rose broken Failed = rose
-Explains told rose broken (Damaged damage) = (told ≡ None) ⊎ broken damage
-Explains told rose broken OutOfMemory = Unit {0}
-
-abbrev pub IsDamaged : Fault → Type 0
-IsDamaged Failed = ⊥
-IsDamaged (Damaged damage) = Unit {0}
-IsDamaged OutOfMemory = ⊥
-
 -- the path has no record, or its parent is not before it
 abbrev pub IsBrokenPath : Option (RecordMap PathRecord) → ℕ → Damage → Type 0
 IsBrokenPath o path damage = IfSome o (λ records. IfSome (fin.get records path) (λ r. path ≤ r.parent)) × (damage ≡ broken_path path)

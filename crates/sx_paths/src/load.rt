@@ -3,7 +3,8 @@ ghost use Rattle.std.specs.Prelude.{◌≡◌, ◌+◌, ◌<◌, ◌≤◌, IfEr
 ghost use Rattle.std.specs.Option.{option_map};
 ghost use Rattle.std.specs.FinMap as map;
 ghost use Rattle.sx_outside.specs.Faults.{Rose};
-ghost use Rattle.sx_paths.specs.Load.{Explains, HasBrokenPath, IsBrokenPath, IsDamaged, TellsFrom, broken_path};
+ghost use Rattle.sx_view.specs.Records.{Explains, IsDamaged};
+ghost use Rattle.sx_paths.specs.Load.{HasBrokenPath, IsBrokenPath, TellsFrom, broken_path};
 ghost use Rattle.sx_paths.specs.OfState.{AreNoPaths, AreRows};
 ghost use Rattle.sx_paths.specs.Table.{row_of};
 
@@ -37,7 +38,7 @@ pub fn read_path<P: Records<PathRecord>>(
     ensures found { IfOk result (λ found. IfSome (P.told records.old)
         (λ told. option_map row_of (map.get told path) ≡ Some (row_of found))) }
     ensures before { IfOk result (λ found. found.parent < path) }
-    ensures fault { IfErr result (Explains (P.told records.old) (Rose (P.faults records.old) (P.faults records.new))
+    ensures fault { IfErr result (Explains (P.damages records.old) (Rose (P.faults records.old) (P.faults records.new))
         (IsBrokenPath (P.told records.old) path)) }
     ensures gets { P.gets records.new ≤ P.gets records.old + 1 }
     ensures never_falls { P.faults records.old ≤ P.faults records.new }
@@ -71,7 +72,7 @@ impl PathTable {
         ensures no_mark { IfOk result (λ table. table.marked ≡ None) }
         ensures of_state { IfOk result (λ table. AreRows (P.told records.old) count table.paths) }
         ensures sound { IfErr result (λ fault. IsDamaged fault → AreNoPaths (P.told records.old) count) }
-        ensures fault { IfErr result (Explains (P.told records.old) (Rose (P.faults records.old) (P.faults records.new))
+        ensures fault { IfErr result (Explains (P.damages records.old) (Rose (P.faults records.old) (P.faults records.new))
             (HasBrokenPath (P.told records.old) count)) }
         ensures gets { P.gets records.new ≤ P.gets records.old + count }
         ensures never_falls { P.faults records.old ≤ P.faults records.new }

@@ -1,6 +1,7 @@
 -- What is answered of nodes.
 use Rattle.std.proofs.Common.{◌≡◌, ◌∙◌, ◌<◌, ◌++◌, ℕ, List, [], ◌∷◌, length, Option, None, Some, refl, sym, ap, subst, arith}
 use Rattle.std.specs.Prelude.{ℤ, true, false, Result, Ok, Err, IsErrAnd}
+use Rattle.sx_bytes.specs.declared.damage.Damage.{Damage}
 use Rattle.sx_tree.specs.declared.query.Answer.{Answer}
 use Rattle.sx_tree.specs.declared.query.Answer.TheVariants as answers
 use Rattle.sx_tree.specs.declared.query.Axis.{Axis}
@@ -10,7 +11,7 @@ use Rattle.sx_tree.specs.declared.query.Query.TheVariants as queries
 use Rattle.sx_tree.specs.declared.record.NodeRecord.{NodeRecord}
 use Rattle.sx_tree.specs.declared.record.PathRecord.{PathRecord}
 use Rattle.sx_view.specs.QueryFault.{query_fault}
-use Rattle.sx_view.specs.Records.{ExplainsFault, RecordMap}
+use Rattle.sx_view.specs.Records.{ExplainsFault, IsDamaged, RecordMap}
 use Rattle.sx_view.specs.Rows.{row_of}
 use Rattle.sx_view.specs.declared.fault.Fault.{Fault}
 use Rattle.sx_view.specs.declared.fault.Fault.TheVariants.{Failed, Damaged, OutOfMemory}
@@ -24,7 +25,6 @@ use Rattle.sx_model.specs.State.{State}
 use Rattle.sx_run.specs.Answers.{SaysNode, ValidNames, hash_said, nodes_said, text_said}
 use Rattle.sx_run.specs.declared.reply.Said.TheVariants as said
 use Rattle.sx_axes.specs.Walk.{HasNoAxis}
-use Rattle.sx_cursor.specs.Damage.{IsDamaged}
 use Rattle.sx_cursor.specs.Told.{IsNoDocument, Shows, Tells}
 use Rattle.sx_select.specs.Selected.{Selects}
 use Rattle.sx_text.specs.Text.{IsText}
@@ -146,24 +146,25 @@ gives_fault (Ok x) o count names query fault is sound = absurd is
 gives_fault (Err e) o count names query fault is sound = subst (λ f. GivesOfNodes o count names query (Err f)) (sym is) (fault_gives o count names query fault sound)
 
 -- a fault of one get
-pub got_sound : (o : Option (RecordMap NodeRecord)) (count : ℕ) (rose : Type 0) (fault : Fault) → ExplainsFault o rose fault → IsDamaged fault → IsNoDocument o count
-got_sound o count rose Failed why is = absurd is
-got_sound o count rose (Damaged damage) why is = untold o count why
-got_sound o count rose OutOfMemory why is = absurd is
+pub got_sound : (o : Option (RecordMap NodeRecord)) (count : ℕ) (below : Damage → Type 0) (rose : Type 0) (fault : Fault) → ((d : Damage) → below d → o ≡ None) → ExplainsFault below rose fault
+    → IsDamaged fault → IsNoDocument o count
+got_sound o count below rose Failed none why is = absurd is
+got_sound o count below rose (Damaged damage) none why is = untold o count (none damage why)
+got_sound o count below rose OutOfMemory none why is = absurd is
 
 -- a fault of the reading of one record
-pub record_gives : (r : Result Answer QueryFault) (o : Option (RecordMap NodeRecord)) (k count : ℕ) (names : ValidNames) (query : Query) (rose : Type 0) (fault : QueryFault)
-    → IsErrAnd r (λ e. e ≡ fault) → (Tells o k None → GivesOfNodes o count names query (Err (NoNode k))) → Explains (IsAbsent o k) Nothing rose (λ _. o ≡ None) fault
+pub record_gives : (r : Result Answer QueryFault) (o : Option (RecordMap NodeRecord)) (k count : ℕ) (names : ValidNames) (query : Query) (below : Damage → Type 0) (rose : Type 0) (fault : QueryFault)
+    → IsErrAnd r (λ e. e ≡ fault) → ((d : Damage) → below d → o ≡ None) → (Tells o k None → GivesOfNodes o count names query (Err (NoNode k))) → Explains (IsAbsent o k) Nothing rose below fault
     → GivesOfNodes o count names query r
-record_gives (Ok x) o k count names query rose fault is absent why = absurd is
-record_gives (Err e) o k count names query rose fault is absent why = by e (subst (Explains (IsAbsent o k) Nothing rose (λ _. o ≡ None)) (sym is) why)
+record_gives (Ok x) o k count names query below rose fault is none absent why = absurd is
+record_gives (Err e) o k count names query below rose fault is none absent why = by e (subst (Explains (IsAbsent o k) Nothing rose below) (sym is) why)
   where
-    by : (e : QueryFault) → Explains (IsAbsent o k) Nothing rose (λ _. o ≡ None) e → GivesOfNodes o count names query (Err e)
+    by : (e : QueryFault) → Explains (IsAbsent o k) Nothing rose below e → GivesOfNodes o count names query (Err e)
     by (faults.Missing asked seen) why = absurd why
     by (faults.NoNode other) why = subst (λ (n : ℕ). GivesOfNodes o count names query (Err (NoNode n))) why.0 (absent (subst (λ (n : ℕ). Tells o n None) (sym why.0) why.1))
     by (faults.NoPath path) why = absurd why
     by faults.Failed why = fault_gives o count names query Failed (λ is. absurd is)
-    by (faults.Damaged damage) why = fault_gives o count names query (Damaged damage) (λ _. untold o count why)
+    by (faults.Damaged damage) why = fault_gives o count names query (Damaged damage) (λ _. untold o count (none damage why))
     by faults.OutOfMemory why = fault_gives o count names query OutOfMemory (λ is. absurd is)
 
 -- ---- over the records of nodes and paths

@@ -4,6 +4,7 @@ use Rattle.std.specs.Prelude.{◌⊎◌, Bool, true, false, Result, Ok, Err, IfE
 use Rattle.std.specs.Option.{option_map}
 use Rattle.std.specs.FinMap as fin
 use Rattle.sx_outside.specs.Faults.{Rose}
+use Rattle.sx_bytes.specs.declared.damage.Damage.{Damage}
 use Rattle.sx_tree.specs.declared.query.Answer.{Answer}
 use Rattle.sx_tree.specs.declared.query.Answer.TheVariants as answers
 use Rattle.sx_tree.specs.declared.query.Query.{Query}
@@ -12,7 +13,8 @@ use Rattle.sx_tree.specs.declared.record.NodeRecord.{NodeRecord}
 use Rattle.sx_tree.specs.declared.record.PathRecord.{PathRecord}
 use Rattle.sx_tree.specs.declared.record.Step.{Step}
 use Rattle.sx_view.specs.QueryFault.{query_fault}
-use Rattle.sx_view.specs.Records.{RecordMap}
+use Rattle.sx_view.specs.Records.{Explains, IsDamaged, RecordMap}
+use Rattle.sx_view.proofs.Failing.{undamaged}
 use Rattle.sx_view.specs.declared.fault.Fault.{Fault}
 use Rattle.sx_view.specs.declared.fault.Fault.TheVariants.{Failed, Damaged, OutOfMemory}
 use Rattle.sx_view.specs.declared.fault.QueryFault.{QueryFault}
@@ -22,14 +24,11 @@ use Rattle.sx_model.specs.State.{State}
 use Rattle.sx_model.specs.WrittenPath.{path_text_of}
 use Rattle.sx_run.specs.Answers.{path_said, text_of, text_of_path}
 use Rattle.sx_run.specs.declared.reply.Said.TheVariants as said
-use Rattle.sx_paths.specs.Load.{Explains, IsBrokenPath, IsDamaged}
+use Rattle.sx_paths.specs.Load.{IsBrokenPath}
 use Rattle.sx_paths.specs.OfState.{AreNoPaths, ShowsPaths, path_at}
 use Rattle.sx_paths.specs.Table.{row_of}
 use Rattle.sx_paths.proofs.StateLemmas.{unbroken, untold}
 use Rattle.sx_select.specs.Climb.{IsPathText}
-use Rattle.sx_query.specs.Causes as causes
-use Rattle.sx_query.specs.Causes.{IsBrokenPathOf, IsNoPath, Nothing}
-use Rattle.sx_query.proofs.Faults.{later_fault, of_paths}
 use Rattle.sx_query.specs.Gives.{Gives, GivesEach, GivesOfPaths, names_of}
 use Rattle.sx_query.specs.declared.about.About.{About}
 
@@ -81,12 +80,11 @@ gives_path_fault (Err e) o mid count p fault same is few sound =
     subst (λ f. GivesOfPaths o count p (Err f)) (sym is) (fault_gives o count p fault few (λ damage. subst (λ x. AreNoPaths x p) same (sound damage)))
 
 -- one path that is broken
-pub broken_sound : (o : Option (RecordMap PathRecord)) (rose : Type 0) (p : ℕ) (fault : Fault) → 1 ≤ p → Explains o rose (IsBrokenPath o p) fault → IsDamaged fault → AreNoPaths o p
+pub broken_sound : (o : Option (RecordMap PathRecord)) (below : Damage → Type 0) (rose : Type 0) (p : ℕ) (fault : Fault) → 1 ≤ p → ((d : Damage) → below d → o ≡ None)
+    → Explains below rose (IsBrokenPath o p) fault → IsDamaged fault → AreNoPaths o p
 unfolding AreNoPaths
-broken_sound o rose p Failed some why is = absurd is
-broken_sound o rose p OutOfMemory some why is = absurd is
-broken_sound o rose p (Damaged damage) some (inl none) is = λ state shows few. untold state o shows none
-broken_sound o rose p (Damaged damage) some (inr broken) is = λ state shows few. unbroken o state p damage shows some few broken
+broken_sound o below rose p fault some none why is = undamaged below (IsBrokenPath o p) rose (AreNoPaths o p) fault
+    (λ d told state shows few. untold state o shows (none d told)) (λ d broken state shows few. unbroken o state p d shows some few broken) why is
 
 -- a way up that is broken
 pub above_sound : {A : Type 0} (r : Result A Fault) (o : Option (RecordMap PathRecord)) (p : ℕ) (fault : Fault) → IsErrAnd r (λ e. e ≡ fault) → (IsDamaged fault → AreNoPaths o 0)
@@ -109,13 +107,6 @@ absent_sound o p before text false is some absent = λ state shows few. by state
     by : (listed : List (List Step)) (p : ℕ) → 1 ≤ p → p ≤ length listed → path_at listed p ≡ None → ⊥
     by listed zero some few none = omega (arith, some)
     by listed (suc place) some few none = not_there listed place (omega (arith, few)) none
-
--- a fault after the path was read
-pub path_fault : (r : Result Answer QueryFault) (o mid : Option (RecordMap PathRecord)) (a b c count p : ℕ) (fault : Fault) → IsErrAnd r (λ e. e ≡ query_fault fault) → mid ≡ o → a ≤ b
-    → Explains mid (Rose b c) (IsBrokenPathOf mid p) fault
-    → IfErr r (causes.Explains Nothing (IsNoPath count p) (Rose a c) (λ damage. (o ≡ None) ⊎ IsBrokenPathOf o p damage))
-path_fault r o mid a b c count p fault is same less why =
-    later_fault r Nothing (IsNoPath count p) o mid a b c (λ x. IsBrokenPathOf x p) fault is same less (of_paths mid (Rose b c) (IsBrokenPathOf mid p) fault why)
 
 -- ---- over the records of nodes and paths
 

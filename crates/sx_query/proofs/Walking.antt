@@ -2,18 +2,18 @@
 use Rattle.std.proofs.Common.{◌≡◌, ◌∙◌, ◌≤◌, ◌++◌, ℕ, List, [], ◌∷◌, Option, None, Some, refl, sym, ap, subst, arith, append_assoc, append-nil}
 use Rattle.std.specs.Prelude.{Result, Ok, Err, IfErr, IsErrAnd}
 use Rattle.sx_outside.specs.Faults.{Rose}
+use Rattle.sx_bytes.specs.declared.damage.Damage.{Damage}
 use Rattle.sx_tree.specs.declared.query.Axis.{Axis}
 use Rattle.sx_tree.specs.declared.record.NodeRecord.{NodeRecord}
-use Rattle.sx_view.specs.Records.{RecordMap}
+use Rattle.sx_view.specs.Records.{Explains, IsDamaged, RecordMap}
 use Rattle.sx_view.specs.declared.fault.Fault.{Fault}
-use Rattle.sx_cursor.specs.Damage.{Explains, IsDamaged}
 use Rattle.sx_cursor.specs.Told.{IsNoDocument}
 use Rattle.sx_axes.specs.Broken.{IsBroken}
 use Rattle.sx_axes.specs.Gives.{Ends, Gives, IfFault, Passes, TakesMore}
 use Rattle.sx_axes.specs.Walk.{Starts}
 use Rattle.sx_axes.specs.declared.course.Course.{Course}
 use Rattle.sx_query.specs.OnAxis.{AreOnAxis}
-use Rattle.sx_query.proofs.Faults.{later}
+use Rattle.sx_view.proofs.Failing.{err-later}
 
 pub passes_none : (o : Option (RecordMap NodeRecord)) (course : Course) (none : List ℕ) → none ≡ [] → Passes o course none course
 unfolding Passes
@@ -73,11 +73,9 @@ step_sound (Err e) o mid a k count start old new found (Err other) fault is_e is
     error_in (Ok n) other = other
     error_in (Err e) other = e
 
-pub step_fault : {A : Type 0} (r : Result A Fault) (o mid : Option (RecordMap NodeRecord)) (a b c count from : ℕ) (step : Result ℕ Fault) (fault : Fault)
-    → IsErrAnd r (λ e. e ≡ fault) → step ≡ Err fault → mid ≡ o → from ≡ count → a ≤ b → IfFault (Explains mid (Rose b c) (IsBroken mid from)) (Some step)
-    → IfErr r (Explains o (Rose a c) (IsBroken o count))
-step_fault (Ok x) o mid a b c count from step fault is_e is same all less why = absurd is_e
-step_fault (Err e) o mid a b c count from step fault is_e is same all less why =
-    let here : Explains mid (Rose b c) (IsBroken mid from) fault = subst (λ x. IfFault (Explains mid (Rose b c) (IsBroken mid from)) (Some x)) is why in
-    let whole : Explains mid (Rose b c) (IsBroken mid count) fault = subst (λ (n : ℕ). Explains mid (Rose b c) (IsBroken mid n) fault) all here in
-    subst (Explains o (Rose a c) (IsBroken o count)) (sym is_e) (later o mid a b c (λ x. IsBroken x count) fault same less whole)
+pub step_fault : {A : Type 0} (r : Result A Fault) (o mid : Option (RecordMap NodeRecord)) (below now : Damage → Type 0) (a b c count from : ℕ) (step : Result ℕ Fault) (fault : Fault)
+    → IsErrAnd r (λ e. e ≡ fault) → step ≡ Err fault → ((d : Damage) → now d → below d) → mid ≡ o → from ≡ count → a ≤ b → IfFault (Explains now (Rose b c) (IsBroken mid from)) (Some step)
+    → IfErr r (Explains below (Rose a c) (IsBroken o count))
+step_fault r o mid below now a b c count from step fault is_e is damages same all less why =
+    let here : Explains now (Rose b c) (IsBroken mid from) fault = subst (λ x. IfFault (Explains now (Rose b c) (IsBroken mid from)) (Some x)) is why in
+    err-later r (λ x. IsBroken x count) below now o mid a b c fault is_e damages same less (subst (λ (n : ℕ). Explains now (Rose b c) (IsBroken mid n) fault) all here)

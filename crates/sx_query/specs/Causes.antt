@@ -42,16 +42,35 @@ AsksOneRecord (Valid t) = ⊥
 abbrev pub IsBrokenPathOf : Option (RecordMap PathRecord) → ℕ → Damage → Type 0
 IsBrokenPathOf paths p damage = IsBrokenPath paths p damage ⊎ HasBrokenAbove paths p damage
 
--- The records that were asked are not told, or what is told breaks a rule.
+-- What is told of the records that the question reads breaks a rule.
 abbrev pub IsCause : Query → Option (RecordMap NodeRecord) → Option (RecordMap PathRecord) → About → Damage → Type 0
-IsCause (Text k) nodes paths about damage = (nodes ≡ None) ⊎ texts.IsBroken nodes about.nodes damage
-IsCause (Node k) nodes paths about damage = nodes ≡ None
-IsCause (Hash k) nodes paths about damage = nodes ≡ None
-IsCause (Axis a k) nodes paths about damage = (nodes ≡ None) ⊎ axes.IsBroken nodes about.nodes damage
-IsCause (Path p) nodes paths about damage = (paths ≡ None) ⊎ IsBrokenPathOf paths p damage
+IsCause (Text k) nodes paths about damage = texts.IsBroken nodes about.nodes damage
+IsCause (Node k) nodes paths about damage = ⊥
+IsCause (Hash k) nodes paths about damage = ⊥
+IsCause (Axis a k) nodes paths about damage = axes.IsBroken nodes about.nodes damage
+IsCause (Path p) nodes paths about damage = IsBrokenPathOf paths p damage
 IsCause Paths nodes paths about damage = ⊥
-IsCause (Select path) nodes paths about damage = (nodes ≡ None) ⊎ texts.IsBroken nodes about.nodes damage
-IsCause (Valid t) nodes paths about damage = (nodes ≡ None) ⊎ times.IsBroken nodes about.nodes damage
+IsCause (Select path) nodes paths about damage = texts.IsBroken nodes about.nodes damage
+IsCause (Valid t) nodes paths about damage = times.IsBroken nodes about.nodes damage
+
+-- of what holds of nodes and what holds of paths, that of the records which the question reads
+abbrev pub of_read : Query → Type 0 → Type 0 → Type 0
+of_read (Text k) nodes paths = nodes
+of_read (Node k) nodes paths = nodes
+of_read (Hash k) nodes paths = nodes
+of_read (Axis a k) nodes paths = nodes
+of_read (Path p) nodes paths = paths
+of_read Paths nodes paths = ⊥
+of_read (Select path) nodes paths = nodes
+of_read (Valid t) nodes paths = nodes
+
+-- the faults rose of the object whose records the question reads
+abbrev pub HasFailed : Query → Type 0 → Type 0 → Type 0
+HasFailed query nodes paths = of_read query nodes paths
+
+-- the damage is one of the object whose records the question reads
+abbrev pub IsOfBelow : Query → (Damage → Type 0) → (Damage → Type 0) → Damage → Type 0
+IsOfBelow query nodes paths damage = of_read query (nodes damage) (paths damage)
 
 -- There is no such node or path, a call of the object below failed, or what was read is damaged.
 abbrev pub Explains : (ℕ → Type 0) → (ℕ → Type 0) → Type 0 → (Damage → Type 0) → QueryFault → Type 0

@@ -27,7 +27,7 @@ pub(crate) fn answer_select<N: Records<NodeRecord>>(
         → GivesOfNodes (N.told nodes.old) count names (queries.Select path.now) result }
     ensures fault { IfErr result (Explains Nothing Nothing
         (Rose (N.faults nodes.old) (N.faults nodes.new))
-        (λ damage. (N.told nodes.old ≡ None) ⊎ texts.IsBroken (N.told nodes.old) count damage)) }
+        (λ damage. N.damages nodes.old damage ⊎ texts.IsBroken (N.told nodes.old) count damage)) }
     ensures never_falls { N.faults nodes.old ≤ N.faults nodes.new }
     ensures keeps { N.keeps nodes.old nodes.new }
 {
@@ -45,7 +45,7 @@ pub(crate) fn answer_valid<N: Records<NodeRecord>>(
     ensures gives { GivesOfNodes (N.told nodes.old) about.now.nodes (names_of about.now) (queries.Valid time) result }
     ensures fault { IfErr result (Explains Nothing Nothing
         (Rose (N.faults nodes.old) (N.faults nodes.new))
-        (λ damage. (N.told nodes.old ≡ None) ⊎ times.IsBroken (N.told nodes.old) about.now.nodes damage)) }
+        (λ damage. N.damages nodes.old damage ⊎ times.IsBroken (N.told nodes.old) about.now.nodes damage)) }
     ensures never_falls { N.faults nodes.old ≤ N.faults nodes.new }
     ensures keeps { N.keeps nodes.old nodes.new }
 {

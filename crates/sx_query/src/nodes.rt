@@ -25,7 +25,7 @@ fn record_of<N: Records<NodeRecord>>(
 ) -> Result<NodeRecord, QueryFault>
     ensures found { IfOk result (λ found. Tells (N.told nodes.old) node (Some (row_of found))) }
     ensures fault { IfErr result (Explains (IsAbsent (N.told nodes.old) node) Nothing
-        (Rose (N.faults nodes.old) (N.faults nodes.new)) (λ _. N.told nodes.old ≡ None)) }
+        (Rose (N.faults nodes.old) (N.faults nodes.new)) (N.damages nodes.old)) }
     ensures gets { N.gets nodes.new ≤ N.gets nodes.old + 1 }
     ensures never_falls { N.faults nodes.old ≤ N.faults nodes.new }
     ensures keeps { N.keeps nodes.old nodes.new }
@@ -45,7 +45,7 @@ pub(crate) fn answer_node<N: Records<NodeRecord>>(
     ensures gives { (count : ℕ) (names : ValidNames)
         → GivesOfNodes (N.told nodes.old) count names (queries.Node node) result }
     ensures fault { IfErr result (Explains (IsAbsent (N.told nodes.old) node) Nothing
-        (Rose (N.faults nodes.old) (N.faults nodes.new)) (λ _. N.told nodes.old ≡ None)) }
+        (Rose (N.faults nodes.old) (N.faults nodes.new)) (N.damages nodes.old)) }
     ensures gets { N.gets nodes.new ≤ N.gets nodes.old + 1 }
     ensures never_falls { N.faults nodes.old ≤ N.faults nodes.new }
     ensures keeps { N.keeps nodes.old nodes.new }
@@ -63,7 +63,7 @@ pub(crate) fn answer_hash<N: Records<NodeRecord>>(
     ensures gives { (count : ℕ) (names : ValidNames)
         → GivesOfNodes (N.told nodes.old) count names (queries.Hash node) result }
     ensures fault { IfErr result (Explains (IsAbsent (N.told nodes.old) node) Nothing
-        (Rose (N.faults nodes.old) (N.faults nodes.new)) (λ _. N.told nodes.old ≡ None)) }
+        (Rose (N.faults nodes.old) (N.faults nodes.new)) (N.damages nodes.old)) }
     ensures gets { N.gets nodes.new ≤ N.gets nodes.old + 1 }
     ensures never_falls { N.faults nodes.old ≤ N.faults nodes.new }
     ensures keeps { N.keeps nodes.old nodes.new }
@@ -84,7 +84,7 @@ pub(crate) fn answer_text<N: Records<NodeRecord>>(
     ensures text { IfOk result IsText }
     ensures fault { IfErr result (Explains (IsAbsent (N.told nodes.old) node) Nothing
         (Rose (N.faults nodes.old) (N.faults nodes.new))
-        (λ damage. (N.told nodes.old ≡ None) ⊎ IsBroken (N.told nodes.old) count damage)) }
+        (λ damage. N.damages nodes.old damage ⊎ IsBroken (N.told nodes.old) count damage)) }
     ensures never_falls { N.faults nodes.old ≤ N.faults nodes.new }
     ensures keeps { N.keeps nodes.old nodes.new }
 {

@@ -1,7 +1,7 @@
 //! Questions about a path.
 ghost use Rattle.std.specs.Prelude.{◌≡◌, ◌<◌, ◌≤◌, ◌⊎◌, [], true, Err, IfErr, IfOk, None};
 ghost use Rattle.sx_outside.specs.Faults.{Rose};
-ghost use Rattle.sx_paths.specs.Load as load;
+ghost use Rattle.sx_view.specs.Records as views;
 ghost use Rattle.sx_paths.specs.OfState.{AreNoPaths};
 ghost use Rattle.sx_select.specs.Climb.{IsPathText};
 ghost use Rattle.sx_view.specs.declared.fault.QueryFault.TheVariants as faults;
@@ -20,9 +20,9 @@ use sx_view::{Fault, QueryFault, Records};
 fn text_of<P: Records<PathRecord>>(alloc: Global, paths: &mut P, path: u32) -> Result<Bytes, Fault>
     requires some { 1 ≤ path }
     ensures text { IfOk result (λ text. IsPathText (P.told paths.old) path [] text true) }
-    ensures fault { IfErr result (load.Explains (P.told paths.old)
+    ensures fault { IfErr result (views.Explains (P.damages paths.old)
         (Rose (P.faults paths.old) (P.faults paths.new)) (IsBrokenPathOf (P.told paths.old) path)) }
-    ensures sound { IfErr result (λ fault. load.IsDamaged fault → AreNoPaths (P.told paths.old) path) }
+    ensures sound { IfErr result (λ fault. views.IsDamaged fault → AreNoPaths (P.told paths.old) path) }
     ensures never_falls { P.faults paths.old ≤ P.faults paths.new }
     ensures keeps { P.keeps paths.old paths.new }
 {
@@ -44,7 +44,7 @@ pub(crate) fn answer_path<P: Records<PathRecord>>(
     ensures no_path { (path ≡ 0) ⊎ (count < path) → result ≡ Err (faults.NoPath path) }
     ensures fault { IfErr result (Explains Nothing (IsNoPath count path)
         (Rose (P.faults paths.old) (P.faults paths.new))
-        (λ damage. (P.told paths.old ≡ None) ⊎ IsBrokenPathOf (P.told paths.old) path damage)) }
+        (λ damage. P.damages paths.old damage ⊎ IsBrokenPathOf (P.told paths.old) path damage)) }
     ensures never_falls { P.faults paths.old ≤ P.faults paths.new }
     ensures keeps { P.keeps paths.old paths.new }
 {

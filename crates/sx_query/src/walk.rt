@@ -2,7 +2,7 @@
 ghost use Rattle.std.specs.Prelude.{◌≡◌, ◌≤◌, ◌⊎◌, IfErr, IfOk, None, Some};
 ghost use Rattle.sx_outside.specs.Faults.{Rose};
 ghost use Rattle.sx_axes.specs.Broken.{IsBroken};
-ghost use Rattle.sx_cursor.specs.Damage as cursor;
+ghost use Rattle.sx_view.specs.Records as views;
 ghost use Rattle.sx_cursor.specs.Told.{IsNoDocument, Tells};
 ghost use Rattle.sx_run.specs.Answers.{ValidNames};
 ghost use Rattle.sx_tree.specs.declared.query.Query.TheVariants as queries;
@@ -30,8 +30,8 @@ fn numbers_on<N: Records<NodeRecord>>(
 ) -> Result<Numbers, Fault>
     requires there { Tells (N.told nodes.old) node (Some (row_of told.now)) }
     ensures lists { IfOk result (AreOnAxis (N.told nodes.old) axis node) }
-    ensures sound { IfErr result (λ fault. cursor.IsDamaged fault → IsNoDocument (N.told nodes.old) count) }
-    ensures fault { IfErr result (cursor.Explains (N.told nodes.old)
+    ensures sound { IfErr result (λ fault. views.IsDamaged fault → IsNoDocument (N.told nodes.old) count) }
+    ensures fault { IfErr result (views.Explains (N.damages nodes.old)
         (Rose (N.faults nodes.old) (N.faults nodes.new)) (IsBroken (N.told nodes.old) count)) }
     ensures never_falls { N.faults nodes.old ≤ N.faults nodes.new }
     ensures keeps { N.keeps nodes.old nodes.new }
@@ -55,7 +55,7 @@ pub(crate) fn answer_axis<N: Records<NodeRecord>>(
         → GivesOfNodes (N.told nodes.old) count names (queries.Axis axis node) result }
     ensures fault { IfErr result (Explains (IsAbsent (N.told nodes.old) node) Nothing
         (Rose (N.faults nodes.old) (N.faults nodes.new))
-        (λ damage. (N.told nodes.old ≡ None) ⊎ IsBroken (N.told nodes.old) count damage)) }
+        (λ damage. N.damages nodes.old damage ⊎ IsBroken (N.told nodes.old) count damage)) }
     ensures never_falls { N.faults nodes.old ≤ N.faults nodes.new }
     ensures keeps { N.keeps nodes.old nodes.new }
 {

@@ -12,11 +12,12 @@ use Rattle.sx_model.specs.Paths.{number_of}
 use Rattle.sx_model.specs.Records.{PathRow, entry, path_row}
 use Rattle.sx_model.specs.State.{State}
 use Rattle.sx_model.specs.WrittenPath.{path_text_of, step_text, steps_text}
-use Rattle.sx_view.specs.Records.{ExplainsFault, RecordMap}
+use Rattle.sx_view.specs.Records.{Explains, ExplainsFault, IsDamaged, RecordMap}
+use Rattle.sx_view.proofs.Failing.{err-damaged, got, undamaged, wider}
 use Rattle.sx_view.specs.declared.fault.Fault.{Fault}
 use Rattle.sx_view.specs.declared.fault.Fault.TheVariants.{Failed, Damaged, OutOfMemory}
 use Rattle.sx_paths.specs.Listed.{IsBase}
-use Rattle.sx_paths.specs.Load.{Explains, IsBrokenPath, IsDamaged, broken_path}
+use Rattle.sx_paths.specs.Load.{IsBrokenPath, broken_path}
 use Rattle.sx_paths.specs.OfState.{AreNoPaths, ShowsPaths, path_at}
 use Rattle.sx_paths.specs.Table.{row_of}
 use Rattle.sx_paths.proofs.StateLemmas.{Entry, entry-at, entry-is, listed-at, unbroken, untold}
@@ -49,18 +50,11 @@ climbs-first (Some m) p found there = (some-of row_of (fin.get m p) (row_of foun
 
 -- ---- faults
 
-pub broken-above : (o mid : Option (RecordMap PathRecord)) (a b c p at : ℕ) (steps : List Step) (fault : Fault) → mid ≡ o → a ≤ b → ClimbsFrom o p steps at → 1 ≤ at
-    → Explains mid (Rose b c) (IsBrokenPath mid at) fault → Explains o (Rose a c) (HasBrokenAbove o p) fault
-broken-above o mid a b c p at steps fault same less climbs some why = by fault (subst (λ x. Explains x (Rose b c) (IsBrokenPath x at) fault) same why)
-  where
-    rose : Rose b c → Rose a c
-    rose is = omega (arith, less, is)
-
-    by : (fault : Fault) → Explains o (Rose b c) (IsBrokenPath o at) fault → Explains o (Rose a c) (HasBrokenAbove o p) fault
-    by Failed why = rose why
-    by OutOfMemory why = why
-    by (Damaged damage) (inl none) = inl none
-    by (Damaged damage) (inr broken) = inr (at, (steps, (climbs, some, broken)))
+pub broken-above : (o mid : Option (RecordMap PathRecord)) (below later : Damage → Type 0) (a b c p at : ℕ) (steps : List Step) (fault : Fault) → mid ≡ o → ((d : Damage) → later d → below d)
+    → a ≤ b → ClimbsFrom o p steps at → 1 ≤ at → Explains later (Rose b c) (IsBrokenPath mid at) fault → Explains below (Rose a c) (HasBrokenAbove o p) fault
+broken-above o mid below later a b c p at steps fault same damages less climbs some why =
+    wider below later (HasBrokenAbove o p) (IsBrokenPath mid at) a b c fault damages
+    (λ d broken. (at, (steps, (climbs, some, subst (λ x. IsBrokenPath x at d) same broken)))) less why
 
 -- ---- over the records of a state
 
@@ -140,16 +134,22 @@ unfolding IsPathText
 written-text None p before after there is = λ state shows. absurd shows.holds
 written-text (Some m) p before after there is = λ state shows. answers m state shows p before after there is
 
-pub none-above : (o : Option (RecordMap PathRecord)) (rose : Type 0) (p : ℕ) (fault : Fault) → Explains o rose (HasBrokenAbove o p) fault → IsDamaged fault → AreNoPaths o 0
+broken-none : (o : Option (RecordMap PathRecord)) (p : ℕ) (damage : Damage) → HasBrokenAbove o p damage → AreNoPaths o 0
 unfolding AreNoPaths
-none-above o rose p Failed why is = absurd is
-none-above o rose p OutOfMemory why is = absurd is
-none-above o rose p (Damaged damage) (inl none) is = λ state shows few. untold state o shows none
-none-above None rose p (Damaged damage) (inr broken) is = λ state shows few. absurd shows.holds
-none-above (Some m) rose p (Damaged damage) (inr broken) is =
+broken-none None p damage broken = λ state shows few. absurd shows.holds
+broken-none (Some m) p damage broken =
     λ state shows few.
     let within = climb-within m state shows p broken.1.0 broken.0 (there-within m state shows p broken.1.1.0.0) broken.1.1.0.1 in
     unbroken (Some m) state broken.0 damage shows broken.1.1.1 within broken.1.1.2
+
+untold-none : (o : Option (RecordMap PathRecord)) → o ≡ None → AreNoPaths o 0
+unfolding AreNoPaths
+untold-none o none = λ state shows few. untold state o shows none
+
+pub none-above : (o : Option (RecordMap PathRecord)) (below : Damage → Type 0) (rose : Type 0) (p : ℕ) (fault : Fault) → ((d : Damage) → below d → o ≡ None)
+    → Explains below rose (HasBrokenAbove o p) fault → IsDamaged fault → AreNoPaths o 0
+none-above o below rose p fault none why is =
+    undamaged below (HasBrokenAbove o p) rose (AreNoPaths o 0) fault (λ d told. untold-none o (none d told)) (λ d broken. broken-none o p d broken) why is
 
 -- ---- what the call answers
 
@@ -181,21 +181,15 @@ broken-here (Some m) p found answer damage some is told late named =
     let there : fin.get m p ≡ Some found = sym told ∙ is in
     (p, ([], ((ap is_some there, refl), some, (subst (λ f. IfSome f (λ r. p ≤ r.parent)) (sym there) late, named))))
 
-pub get-sound : {T : Type 0} (r : Result T Fault) (o : Option (RecordMap PathRecord)) (rose : Type 0) (fault : Fault) → IsErrAnd r (λ e. e ≡ fault) → ExplainsFault o rose fault
-    → IfErr r (λ e. IsDamaged e → AreNoPaths o 0)
-get-sound (Ok x) o rose fault is why = absurd is
-get-sound (Err e) o rose fault is why = by e (subst (ExplainsFault o rose) (sym is) why)
-  where
-    by : (e : Fault) → ExplainsFault o rose e → IsDamaged e → AreNoPaths o 0
-    by Failed why damaged = absurd damaged
-    by OutOfMemory why damaged = absurd damaged
-    by (Damaged damage) why damaged = none-above o rose 0 (Damaged damage) (inl why) tt
+pub get-sound : {T : Type 0} (r : Result T Fault) (o : Option (RecordMap PathRecord)) (below : Damage → Type 0) (rose : Type 0) (fault : Fault) → IsErrAnd r (λ e. e ≡ fault)
+    → ((d : Damage) → below d → o ≡ None) → ExplainsFault below rose fault → IfErr r (λ e. IsDamaged e → AreNoPaths o 0)
+get-sound r o below rose fault is none why =
+    err-damaged r (AreNoPaths o 0) fault is (none-above o below rose 0 fault none (got below (HasBrokenAbove o 0) rose fault why))
 
-pub steps-sound : {T : Type 0} (r : Result T Fault) (o mid : Option (RecordMap PathRecord)) (rose : Type 0) (p : ℕ) (fault : Fault) → IsErrAnd r (λ e. e ≡ fault) → mid ≡ o
-    → Explains mid rose (HasBrokenAbove mid p) fault → IfErr r (λ e. IsDamaged e → AreNoPaths o 0)
-steps-sound (Ok x) o mid rose p fault is same why = absurd is
-steps-sound (Err e) o mid rose p fault is same why =
-    none-above o rose p e (subst (λ x. Explains x rose (HasBrokenAbove x p) e) same (subst (Explains mid rose (HasBrokenAbove mid p)) (sym is) why))
+pub steps-sound : {T : Type 0} (r : Result T Fault) (o mid : Option (RecordMap PathRecord)) (below : Damage → Type 0) (rose : Type 0) (p : ℕ) (fault : Fault) → IsErrAnd r (λ e. e ≡ fault) → mid ≡ o
+    → ((d : Damage) → below d → mid ≡ None) → Explains below rose (HasBrokenAbove mid p) fault → IfErr r (λ e. IsDamaged e → AreNoPaths o 0)
+steps-sound r o mid below rose p fault is same none why =
+    err-damaged r (AreNoPaths o 0) fault is (λ damaged. subst (λ x. AreNoPaths x 0) same (none-above mid below rose p fault none why damaged))
 
 -- ---- how often records were read
 

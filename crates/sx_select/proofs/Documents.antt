@@ -7,11 +7,10 @@ use Rattle.sx_tree.specs.declared.record.NodeRecord.{NodeRecord}
 use Rattle.sx_tree.specs.declared.record.Step.{Step}
 use Rattle.sx_tree.specs.declared.steps.PathStep.{PathStep}
 use Rattle.sx_view.specs.declared.fault.Fault.{Fault}
-use Rattle.sx_view.specs.Records.{RecordMap}
+use Rattle.sx_view.specs.Records.{IsDamaged, RecordMap}
 use Rattle.sx_model.specs.Records.{NodeRow, around_children, at_top, first_of, row, rows}
 use Rattle.sx_model.specs.Tree.{Node, Forest, no_trees, tree_then, is_document, numbers, size, tops}
 use Rattle.sx_model.proofs.Spots.{has}
-use Rattle.sx_cursor.specs.Damage.{IsDamaged}
 use Rattle.sx_cursor.specs.Told.{Tells, Shows, IsNoDocument}
 use Rattle.sx_cursor.proofs.Telling.{not_there, shows-tells, some_is, some_number, tells-once, tells-parts}
 use Rattle.sx_select.specs.Marks.{last_below, marks_below, no_marks, picked}

@@ -4,16 +4,18 @@ use Rattle.std.specs.Global.{Vec}
 use Rattle.std.specs.Option.{option_or}
 use Rattle.std.specs.Prelude.{Result, Ok, Err, IsErrAnd, MatchResult}
 use Rattle.std.proofs.lemmas.List.{reverse-append}
+use Rattle.sx_bytes.specs.declared.damage.Damage.{Damage}
 use Rattle.sx_tree.specs.declared.record.Kind.TheVariants.{Key}
 use Rattle.sx_tree.specs.declared.record.NodeRecord.{NodeRecord}
 use Rattle.sx_tree.specs.declared.steps.PathStep.{PathStep}
-use Rattle.sx_view.specs.Records.{RecordMap}
+use Rattle.sx_view.specs.Records.{Explains, IsDamaged, RecordMap}
+use Rattle.sx_view.proofs.Failing.{undamaged}
 use Rattle.sx_view.specs.declared.fault.Fault.{Fault}
 use Rattle.sx_view.specs.declared.fault.Fault.TheVariants.{Failed, Damaged, OutOfMemory}
 use Rattle.sx_model.specs.Records.{NodeRow, around_children, first_of, row, rows}
 use Rattle.sx_model.specs.Tree.{Node, Forest, no_trees, tree_then, is_document, size}
 use Rattle.sx_model.proofs.Holes.{or_none}
-use Rattle.sx_cursor.specs.Damage.{Explains, IsBrokenLink, IsDamaged}
+use Rattle.sx_cursor.specs.Damage.{IsBrokenLink}
 use Rattle.sx_cursor.specs.Told.{Tells}
 use Rattle.sx_cursor.proofs.Telling.{tells-parts, tells-once, some_is, some_number}
 use Rattle.sx_text.proofs.Writing.{never_bare}
@@ -227,18 +229,12 @@ none_up old new len none rest is =
 
 -- ---- faults
 
-absent_damage : (steps : List PathStep) (o : Option (RecordMap NodeRecord)) (old : Search) (from to : ℕ) (before : List ℕ) (rose : Type 0) (fault : Fault) → old.next ≡ Some to
-    → Explains o rose (IsBrokenLink o from to) fault → IsDamaged fault → Finds steps o old before damaged
-absent_damage steps o old from to before rose Failed some why is = absurd is
-absent_damage steps o old from to before rose OutOfMemory some why is = absurd is
-absent_damage steps o old from to before rose (Damaged damage) some (inl untold) is = finds-untold steps o old before damaged untold
-absent_damage steps o old from to before rose (Damaged damage) some (inr broken) is = finds-absent steps o old before damaged to some broken.0
-
-pub absent_finds : {T : Type 0} (steps : List PathStep) (o : Option (RecordMap NodeRecord)) (old : Search) (from to : ℕ) (before : List ℕ) (rose : Type 0) (r : Result T Fault) (fault : Fault) (P : T → Type 0)
-    → old.next ≡ Some to → IsErrAnd r (λ e. e ≡ fault) → Explains o rose (IsBrokenLink o from to) fault → MatchResult r P (λ e. IsDamaged e → Finds steps o old before damaged)
-absent_finds steps o old from to before rose (Ok x) fault P some is why = absurd is
-absent_finds steps o old from to before rose (Err e) fault P some is why =
-    absent_damage steps o old from to before rose e some (subst (Explains o rose (IsBrokenLink o from to)) (sym is) why)
+pub absent_finds : {T : Type 0} (steps : List PathStep) (o : Option (RecordMap NodeRecord)) (old : Search) (from to : ℕ) (before : List ℕ) (below : Damage → Type 0) (rose : Type 0) (r : Result T Fault) (fault : Fault) (P : T → Type 0)
+    → old.next ≡ Some to → IsErrAnd r (λ e. e ≡ fault) → ((d : Damage) → below d → o ≡ None) → Explains below rose (IsBrokenLink o from to) fault → MatchResult r P (λ e. IsDamaged e → Finds steps o old before damaged)
+absent_finds steps o old from to before below rose (Ok x) fault P some is untold why = absurd is
+absent_finds steps o old from to before below rose (Err e) fault P some is untold why = λ damage.
+    undamaged below (IsBrokenLink o from to) rose (Finds steps o old before damaged) fault (λ d told. finds-untold steps o old before damaged (untold d told))
+    (λ d broken. finds-absent steps o old before damaged to some broken.0) why (subst IsDamaged is damage)
 
 pub pushed_level : (outer old : List Up) (k : ℕ) (right : Option ℕ) (a b : Level) → outer ≡ old ++ record { number = k; right = right; level = a } ∷ [] → a ≡ b
     → outer ≡ old ++ record { number = k; right = right; level = b } ∷ []

@@ -1,10 +1,9 @@
 //! A search for the selected nodes, node after node in preorder.
 ghost use Rattle.std.specs.Prelude.{◌≡◌, ◌+◌, ◌≤◌, ◌<◌, ◌++◌, OnOk, IfErr, IfOk, MatchResult, List, Option, None, Some, ℕ, false, true, length};
 ghost use Rattle.sx_outside.specs.Faults.{Rose};
-ghost use Rattle.sx_view.specs.Records.{RecordMap};
+ghost use Rattle.sx_view.specs.Records.{Explains, IsDamaged, RecordMap};
 ghost use Rattle.sx_tree.specs.declared.record.NodeRecord.{NodeRecord};
 ghost use Rattle.sx_tree.specs.declared.steps.PathStep.{PathStep};
-ghost use Rattle.sx_cursor.specs.Damage.{Explains, IsDamaged};
 ghost use Rattle.sx_text.specs.Text.{IsBroken};
 ghost use Rattle.sx_select.specs.Marks.{listed_one};
 ghost use Rattle.sx_select.specs.Search.{Finds, GoesOn, IsRead, damaged, found, standing};
@@ -43,7 +42,7 @@ impl Search {
             (λ fault. IsDamaged fault → Finds steps.now (N.told records.old) self.old out.old damaged) }
         ensures left { IfOk result (λ _. self.new.left + 1 ≡ self.old.left) }
         ensures outer { IfOk result (λ _. length self.new.outer.items ≤ length self.old.outer.items + 1) }
-        ensures fault { IfErr result (Explains (N.told records.old) (Rose (N.faults records.old) (N.faults records.new)) (IsBroken (N.told records.old) count)) }
+        ensures fault { IfErr result (Explains (N.damages records.old) (Rose (N.faults records.old) (N.faults records.new)) (IsBroken (N.told records.old) count)) }
         ensures gets { N.gets records.new ≤ N.gets records.old + 1 }
         ensures never_falls { N.faults records.old ≤ N.faults records.new }
         ensures keeps { N.keeps records.old records.new }
@@ -116,7 +115,7 @@ impl Search {
         ensures finds { MatchResult result (λ on. GoesOn steps.now (N.told records.old) (standing self.old out.old) on (standing self.new out.new))
             (λ fault. IsDamaged fault → Finds steps.now (N.told records.old) self.old out.old damaged) }
         ensures less { IfOk result (λ on. on ≡ true → self.new.left + self.new.left + length self.new.outer.items < self.old.left + self.old.left + length self.old.outer.items) }
-        ensures fault { IfErr result (Explains (N.told records.old) (Rose (N.faults records.old) (N.faults records.new)) (IsBroken (N.told records.old) count)) }
+        ensures fault { IfErr result (Explains (N.damages records.old) (Rose (N.faults records.old) (N.faults records.new)) (IsBroken (N.told records.old) count)) }
         ensures gets { IfOk result (λ _. N.gets records.new + self.new.left ≤ N.gets records.old + self.old.left) }
         ensures ends { IfOk result (λ on. on ≡ false → self.new.left ≡ self.old.left) }
         ensures never_falls { N.faults records.old ≤ N.faults records.new }
@@ -144,7 +143,7 @@ impl Search {
         requires read { IsRead (N.told records.old) self }
         ensures finds { MatchResult result (λ rest. Finds steps.now (N.told records.old) self out.old (found out.new rest))
             (λ fault. IsDamaged fault → Finds steps.now (N.told records.old) self out.old damaged) }
-        ensures fault { IfErr result (Explains (N.told records.old) (Rose (N.faults records.old) (N.faults records.new)) (IsBroken (N.told records.old) count)) }
+        ensures fault { IfErr result (Explains (N.damages records.old) (Rose (N.faults records.old) (N.faults records.new)) (IsBroken (N.told records.old) count)) }
         ensures gets { IfOk result (λ rest. N.gets records.new + rest ≤ N.gets records.old + self.left) }
         ensures never_falls { N.faults records.old ≤ N.faults records.new }
         ensures keeps { N.keeps records.old records.new }

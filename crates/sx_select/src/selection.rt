@@ -2,7 +2,7 @@
 ghost use Rattle.std.specs.Prelude.{◌≡◌, ◌+◌, ◌≤◌, IfErr, IfOk};
 ghost use Rattle.sx_outside.specs.Faults.{Rose};
 ghost use Rattle.sx_cursor.specs.Told.{IsNoDocument};
-ghost use Rattle.sx_cursor.specs.Damage.{Explains, IsDamaged};
+ghost use Rattle.sx_view.specs.Records.{Explains, IsDamaged};
 ghost use Rattle.sx_text.specs.Text.{IsBroken};
 ghost use Rattle.sx_select.specs.Selected.{Selects, VisitsEachOnce};
 
@@ -34,7 +34,7 @@ pub fn select<N: Records<NodeRecord>>(
 ) -> Result<Numbers, Fault>
     ensures selects { IfOk result (Selects (N.told records.old) path.now.steps) }
     ensures sound { IfErr result (λ fault. IsDamaged fault → IsNoDocument (N.told records.old) count) }
-    ensures fault { IfErr result (Explains (N.told records.old) (Rose (N.faults records.old) (N.faults records.new)) (IsBroken (N.told records.old) count)) }
+    ensures fault { IfErr result (Explains (N.damages records.old) (Rose (N.faults records.old) (N.faults records.new)) (IsBroken (N.told records.old) count)) }
     ensures once { IfOk result (λ _. VisitsEachOnce (N.told records.old) (N.gets records.old) (N.gets records.new)) }
     ensures never_falls { N.faults records.old ≤ N.faults records.new }
     ensures keeps { N.keeps records.old records.new }

@@ -4,7 +4,7 @@ ghost use Rattle.std.specs.Option.{option_map};
 ghost use Rattle.std.specs.FinMap as map;
 ghost use Rattle.sx_model.specs.WrittenPath.{path_text_of, step_text, steps_text};
 ghost use Rattle.sx_outside.specs.Faults.{Rose};
-ghost use Rattle.sx_paths.specs.Load.{Explains, IsDamaged};
+ghost use Rattle.sx_view.specs.Records.{Explains, IsDamaged};
 ghost use Rattle.sx_paths.specs.OfState.{AreNoPaths};
 ghost use Rattle.sx_paths.specs.Table.{row_of};
 ghost use Rattle.sx_select.specs.Climb.{Climbs, HasBrokenAbove, IsPathText, IsWritten, ReadsOnce};
@@ -64,7 +64,7 @@ fn steps_up<P: Records<PathRecord>>(
     requires there { IfSome (P.told records.old) (λ told. option_map row_of (map.get told p) ≡ Some (row_of found)) }
     requires before { found.parent < p }
     ensures steps { IfOk result (λ steps. IfSome (P.told records.old) (λ told. Climbs told p steps.items 0)) }
-    ensures fault { IfErr result (Explains (P.told records.old) (Rose (P.faults records.old) (P.faults records.new))
+    ensures fault { IfErr result (Explains (P.damages records.old) (Rose (P.faults records.old) (P.faults records.new))
         (HasBrokenAbove (P.told records.old) p)) }
     ensures gets { P.gets records.new ≤ P.gets records.old + found.parent }
     ensures once { IfOk result (λ steps. P.gets records.new + 1 ≤ P.gets records.old + length steps.items) }
@@ -107,7 +107,7 @@ pub fn path_text<P: Records<PathRecord>>(
     ensures absent { IfOk result (λ there. there ≡ false → out.new ≡ out.old) }
     ensures unchanged { IfErr result (λ _. out.new ≡ out.old) }
     ensures sound { IfErr result (λ fault. IsDamaged fault → AreNoPaths (P.told records.old) 0) }
-    ensures fault { IfErr result (Explains (P.told records.old) (Rose (P.faults records.old) (P.faults records.new))
+    ensures fault { IfErr result (Explains (P.damages records.old) (Rose (P.faults records.old) (P.faults records.new))
         (HasBrokenAbove (P.told records.old) p)) }
     ensures once { IfOk result (λ _. ReadsOnce (P.told records.old) p (P.gets records.old) (P.gets records.new)) }
     ensures gets { P.gets records.new ≤ P.gets records.old + p }

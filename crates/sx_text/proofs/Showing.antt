@@ -2,19 +2,19 @@
 use Rattle.std.proofs.Common.{◌≡◌, ℕ, ◌+◌, ◌-◌, ◌<◌, ◌≤◌, true, false, List, [], ◌∷◌, ◌++◌, length, reverse, Option, Some, None, refl, sym, ap, subst, ◌∙◌, append_assoc, append-nil, inl, inr, arith}
 use Rattle.std.specs.Global.{Vec}
 use Rattle.std.specs.Prelude.{Result, Ok, Err, IfErr, IsErrAnd, MatchResult, option_map}
+use Rattle.sx_bytes.specs.declared.damage.Damage.{Damage}
 use Rattle.sx_tree.specs.declared.record.Kind.{Kind}
 use Rattle.sx_tree.specs.declared.record.NodeRecord.{NodeRecord}
 use Rattle.sx_tree.specs.declared.record.Step.{Step}
 use Rattle.sx_view.specs.declared.fault.Fault.{Fault}
 use Rattle.sx_view.specs.declared.fault.Fault.TheVariants.{Failed, Damaged, OutOfMemory}
-use Rattle.sx_view.specs.Records.{RecordMap, ExplainsFault}
+use Rattle.sx_view.specs.Records.{ExplainsFault, IsDamaged, RecordMap}
 use Rattle.sx_model.specs.Holes.{Frame, filled, plug, around_hole}
 use Rattle.sx_model.specs.Records.{NodeRow, around_children}
 use Rattle.sx_model.specs.Tree.{Node, Forest, no_trees, tree_then, beside, FitBelow, HasChildren, IsWellFormed, Spot, size, spot, tops}
 use Rattle.sx_model.specs.TreeText.{closing, opening, texts, text_at}
 use Rattle.sx_model.proofs.Plugging.{above, fit_back, stand_inside}
 use Rattle.sx_model.proofs.Spots.{spot_in-absent}
-use Rattle.sx_cursor.specs.Damage.{IsDamaged}
 use Rattle.sx_cursor.specs.Told.{Tells, Shows, IsNoDocument}
 use Rattle.sx_cursor.proofs.Telling.{IsAt, is_at, not_there, told}
 use Rattle.sx_text.specs.Pen.{IsLevel, Rest, wrote, damaged, IsOutcome, Writes}
@@ -149,15 +149,16 @@ pub visits_none : (o : Option (RecordMap NodeRecord)) (k old new : ℕ) → Tell
 unfolding VisitsOnce
 visits_none o k old new is = λ local number trees shows s there. absurd (cc (sym (no_spot_there local number trees o k shows is) ∙ there))
 
-read_damaged : (o : Option (RecordMap NodeRecord)) (count : ℕ) (rose : Type 0) (fault : Fault) → ExplainsFault o rose fault → IsDamaged fault → IsNoDocument o count
-read_damaged o count rose Failed why is = absurd is
-read_damaged o count rose OutOfMemory why is = absurd is
-read_damaged o count rose (Damaged damage) why is = no_document-untold o count why
+read_damaged : (o : Option (RecordMap NodeRecord)) (count : ℕ) (below : Damage → Type 0) (rose : Type 0) (fault : Fault) → ((d : Damage) → below d → o ≡ None) → ExplainsFault below rose fault
+    → IsDamaged fault → IsNoDocument o count
+read_damaged o count below rose Failed untold why is = absurd is
+read_damaged o count below rose OutOfMemory untold why is = absurd is
+read_damaged o count below rose (Damaged damage) untold why is = no_document-untold o count (untold damage why)
 
-pub read_sound : {T : Type 0} (r : Result T Fault) (o : Option (RecordMap NodeRecord)) (count : ℕ) (rose : Type 0) (fault : Fault) → IsErrAnd r (λ e. e ≡ fault) → ExplainsFault o rose fault
-    → IfErr r (λ e. IsDamaged e → IsNoDocument o count)
-read_sound (Ok x) o count rose fault is why = absurd is
-read_sound (Err e) o count rose fault is why = read_damaged o count rose e (subst (ExplainsFault o rose) (sym is) why)
+pub read_sound : {T : Type 0} (r : Result T Fault) (o : Option (RecordMap NodeRecord)) (count : ℕ) (below : Damage → Type 0) (rose : Type 0) (fault : Fault) → IsErrAnd r (λ e. e ≡ fault)
+    → ((d : Damage) → below d → o ≡ None) → ExplainsFault below rose fault → IfErr r (λ e. IsDamaged e → IsNoDocument o count)
+read_sound (Ok x) o count below rose fault is untold why = absurd is
+read_sound (Err e) o count below rose fault is untold why = read_damaged o count below rose e untold (subst (ExplainsFault below rose) (sym is) why)
 
 pub finish_damaged : {T : Type 0} (r : Result T Fault) (P : T → Type 0) (o : Option (RecordMap NodeRecord)) (k : ℕ) (w : NodeRow) (outer : Vec Open) (count : ℕ) (before : List ℕ) (fault : Fault)
     → IsErrAnd r (λ e. e ≡ fault) → Tells o k (Some w) → outer.items ≡ []

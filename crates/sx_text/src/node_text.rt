@@ -1,9 +1,8 @@
 //! The text of a node with all below it.
 ghost use Rattle.std.specs.Prelude.{◌≡◌, ◌+◌, ◌≤◌, ℕ, IfErr, IfOk, MatchResult, None, Some, false, true, length, option_map, take};
 ghost use Rattle.sx_outside.specs.Faults.{Rose};
-ghost use Rattle.sx_view.specs.Records.{ExplainsFault};
+ghost use Rattle.sx_view.specs.Records.{Explains, ExplainsFault, IsDamaged};
 ghost use Rattle.sx_view.specs.Rows.{row_of};
-ghost use Rattle.sx_cursor.specs.Damage.{Explains, IsDamaged};
 ghost use Rattle.sx_cursor.specs.Told.{Tells, IsNoDocument};
 ghost use Rattle.sx_text.specs.Text.{IsBroken, IsText, VisitsOnce};
 
@@ -37,7 +36,7 @@ fn append_tree<N: Records<NodeRecord>>(
     requires there { Tells (N.told records.old) number (Some (row_of node.now)) }
     ensures writes { MatchResult result (λ _. IsText (N.told records.old) number out.old out.new true) (λ fault. IsDamaged fault → IsNoDocument (N.told records.old) count) }
     ensures once { IfOk result (λ _. (before : ℕ) → N.gets records.old ≤ before + 1 → VisitsOnce (N.told records.old) number before (N.gets records.new)) }
-    ensures fault { IfErr result (Explains (N.told records.old) (Rose (N.faults records.old) (N.faults records.new)) (IsBroken (N.told records.old) count)) }
+    ensures fault { IfErr result (Explains (N.damages records.old) (Rose (N.faults records.old) (N.faults records.new)) (IsBroken (N.told records.old) count)) }
     ensures begins { take (length out.old) out.new ≡ out.old }
     ensures gets { IfOk result (λ _. N.gets records.new + 1 ≤ N.gets records.old + count) }
     ensures never_falls { N.faults records.old ≤ N.faults records.new }
@@ -83,7 +82,7 @@ pub fn text<N: Records<NodeRecord>>(
     ensures absent { IfOk result (λ there. there ≡ false → Tells (N.told records.old) node None × (out.new ≡ out.old)) }
     ensures unchanged { IfErr result (λ _. out.new ≡ out.old) }
     ensures sound { IfErr result (λ fault. IsDamaged fault → IsNoDocument (N.told records.old) count) }
-    ensures fault { IfErr result (Explains (N.told records.old) (Rose (N.faults records.old) (N.faults records.new)) (IsBroken (N.told records.old) count)) }
+    ensures fault { IfErr result (Explains (N.damages records.old) (Rose (N.faults records.old) (N.faults records.new)) (IsBroken (N.told records.old) count)) }
     ensures once { IfOk result (λ _. VisitsOnce (N.told records.old) node (N.gets records.old) (N.gets records.new)) }
     ensures never_falls { N.faults records.old ≤ N.faults records.new }
     ensures keeps { N.keeps records.old records.new }

@@ -1,9 +1,8 @@
 //! A text that is being written, node after node.
 ghost use Rattle.std.specs.Prelude.{◌≡◌, ◌+◌, ◌≤◌, ◌<◌, ◌++◌, ℕ, IfErr, IfOk, MatchResult, Option, None, Some, false, true, length, take};
 ghost use Rattle.sx_outside.specs.Faults.{Rose};
-ghost use Rattle.sx_view.specs.Records.{RecordMap};
+ghost use Rattle.sx_view.specs.Records.{Explains, IsDamaged, RecordMap};
 ghost use Rattle.sx_tree.specs.declared.record.NodeRecord.{NodeRecord};
-ghost use Rattle.sx_cursor.specs.Damage.{Explains, IsDamaged};
 ghost use Rattle.sx_text.specs.Pen.{GoesOn, IsRead, Writes, damaged, wrote};
 ghost use Rattle.sx_text.specs.Text.{IsBroken};
 
@@ -56,7 +55,7 @@ impl Pen {
             (λ fault. IsDamaged fault → Writes (N.told records.old) self.old out.old damaged) }
         ensures left { IfOk result (λ _. self.new.left + 1 ≡ self.old.left) }
         ensures outer { IfOk result (λ _. length self.new.outer.items ≡ length self.old.outer.items + 1) }
-        ensures fault { IfErr result (Explains (N.told records.old) (Rose (N.faults records.old) (N.faults records.new)) (IsBroken (N.told records.old) count)) }
+        ensures fault { IfErr result (Explains (N.damages records.old) (Rose (N.faults records.old) (N.faults records.new)) (IsBroken (N.told records.old) count)) }
         ensures begins { take (length out.old) out.new ≡ out.old }
         ensures gets { N.gets records.new ≤ N.gets records.old + 1 }
         ensures never_falls { N.faults records.old ≤ N.faults records.new }
@@ -95,7 +94,7 @@ impl Pen {
             (λ fault. IsDamaged fault → Writes o self.old out.old damaged) }
         ensures left { self.new.left ≡ self.old.left }
         ensures outer { IfOk result (λ on. on ≡ true → length self.new.outer.items + 1 ≡ length self.old.outer.items) }
-        ensures fault { (count : ℕ) (o : Option (RecordMap NodeRecord)) → IsRead o self.old → IfErr result (Explains o ⊥ (IsBroken o count)) }
+        ensures fault { (count : ℕ) (o : Option (RecordMap NodeRecord)) → IsRead o self.old → IfErr result (Explains (λ _. ⊥) ⊥ (IsBroken o count)) }
         ensures begins { take (length out.old) out.new ≡ out.old }
     {
         if !self.begun && matches!(self.above.kind, Kind::Key) {
@@ -125,7 +124,7 @@ impl Pen {
         ensures writes { MatchResult result (λ on. GoesOn (N.told records.old) self.old out.old on self.new out.new)
             (λ fault. IsDamaged fault → Writes (N.told records.old) self.old out.old damaged) }
         ensures less { IfOk result (λ on. on ≡ true → self.new.left + self.new.left + length self.new.outer.items < self.old.left + self.old.left + length self.old.outer.items) }
-        ensures fault { IfErr result (Explains (N.told records.old) (Rose (N.faults records.old) (N.faults records.new)) (IsBroken (N.told records.old) count)) }
+        ensures fault { IfErr result (Explains (N.damages records.old) (Rose (N.faults records.old) (N.faults records.new)) (IsBroken (N.told records.old) count)) }
         ensures begins { take (length out.old) out.new ≡ out.old }
         ensures gets { IfOk result (λ _. N.gets records.new + self.new.left ≤ N.gets records.old + self.old.left) }
         ensures ends { IfOk result (λ on. on ≡ false → self.new.left ≡ self.old.left) }
@@ -153,7 +152,7 @@ impl Pen {
         requires read { IsRead (N.told records.old) self }
         ensures writes { MatchResult result (λ rest. Writes (N.told records.old) self out.old (wrote out.new rest))
             (λ fault. IsDamaged fault → Writes (N.told records.old) self out.old damaged) }
-        ensures fault { IfErr result (Explains (N.told records.old) (Rose (N.faults records.old) (N.faults records.new)) (IsBroken (N.told records.old) count)) }
+        ensures fault { IfErr result (Explains (N.damages records.old) (Rose (N.faults records.old) (N.faults records.new)) (IsBroken (N.told records.old) count)) }
         ensures begins { take (length out.old) out.new ≡ out.old }
         ensures gets { IfOk result (λ rest. N.gets records.new + rest ≤ N.gets records.old + self.left) }
         ensures never_falls { N.faults records.old ≤ N.faults records.new }

@@ -5,12 +5,11 @@ use Rattle.std.specs.Option.{is_some, option_or, unwrap_or}
 use Rattle.sx_tree.specs.declared.record.Kind.{Kind}
 use Rattle.sx_tree.specs.declared.record.NodeRecord.{NodeRecord}
 use Rattle.sx_view.specs.declared.fault.Fault.{Fault}
-use Rattle.sx_view.specs.Records.{RecordMap}
+use Rattle.sx_view.specs.Records.{IsDamaged, RecordMap}
 use Rattle.sx_view.specs.Rows.{row_of}
 use Rattle.sx_model.specs.Records.{Around, NodeRow, around_children, first_of, row, rows}
 use Rattle.sx_model.specs.Tree.{Forest, HasChildren, Node, count, is_key, is_object, no_trees, tops, tree_then}
 use Rattle.sx_model.specs.Valid.{field, has_begun, has_not_ended, value_of_key}
-use Rattle.sx_cursor.specs.Damage.{IsDamaged}
 use Rattle.sx_cursor.specs.Told.{Tells}
 use Rattle.sx_cursor.proofs.Telling.{some_is, some_number, tells-once, tells-parts}
 use Rattle.sx_valid.specs.Fields.{IsOutcome, IsRow, LacksValue, Looks, LooksOn, Outcome, begins, found_or, judged, lasts_on, overrun, reach, value_seen}

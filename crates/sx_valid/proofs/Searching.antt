@@ -2,6 +2,7 @@
 use Rattle.std.proofs.Common.{◌≡◌, ◌+◌, ◌-◌, ◌<◌, ◌≤◌, ◌&&◌, ◌⊎◌, ℕ, ℤ, Bool, false, if◌then◌else◌, List, [], ◌∷◌, ◌++◌, reverse, Option, None, Some, take, refl, sym, ap, subst, ◌∙◌, append_assoc, append-nil, zero-add, inl, inr, arith}
 use Rattle.std.proofs.lemmas.List.{reverse-append}
 use Rattle.std.specs.Prelude.{Result, Ok, Err, IfErr, IfOk, IsErrAnd, MatchResult, slice_get}
+use Rattle.sx_bytes.specs.declared.damage.Damage.{Damage}
 use Rattle.sx_tree.specs.declared.record.Kind.{Kind}
 use Rattle.sx_tree.specs.declared.record.Kind.TheVariants.{Document, Object, Array, Key, Str, Number, Bool as Truth, Null}
 use Rattle.sx_tree.specs.declared.record.NodeRecord.{NodeRecord}
@@ -9,11 +10,12 @@ use Rattle.sx_tree.specs.declared.record.Step.{Step}
 use Rattle.sx_tree.specs.declared.numbers.Numbers.{Numbers}
 use Rattle.sx_view.specs.declared.fault.Fault.{Fault}
 use Rattle.sx_view.specs.declared.fault.Fault.TheVariants.{Failed, Damaged, OutOfMemory}
-use Rattle.sx_view.specs.Records.{ExplainsFault, RecordMap}
+use Rattle.sx_view.specs.Records.{Explains, ExplainsFault, IsDamaged, RecordMap}
+use Rattle.sx_view.proofs.Failing.{undamaged}
 use Rattle.sx_model.specs.Records.{NodeRow, at_top, first_of}
 use Rattle.sx_model.specs.Tree.{Forest, count, is_key, is_object, no_trees, numbers, size, tree_then}
 use Rattle.sx_model.specs.Valid.{field, has_begun, has_not_ended, valid}
-use Rattle.sx_cursor.specs.Damage.{Explains, IsBrokenLink, IsDamaged, IsLinked}
+use Rattle.sx_cursor.specs.Damage.{IsBrokenLink, IsLinked}
 use Rattle.sx_cursor.specs.Told.{IsNoDocument, Shows, Tells}
 use Rattle.sx_cursor.proofs.Telling.{shows-tells, some_number}
 use Rattle.sx_valid.specs.Fields.{IsRow, reach}
@@ -174,16 +176,12 @@ pub no_node : (o : Option (RecordMap NodeRecord)) (asked : Asked) (k : ℕ) (sur
 unfolding SearchesFrom
 no_node o asked k survey outcome absent = λ m told above trees row rest waits. absurd (never_row m above k trees row (subst (λ x. Tells x k None) told absent))
 
-pub link_fails : {T : Type 0} (r : Result T Fault) (P : T → Type 0) (o : Option (RecordMap NodeRecord)) (asked : Asked) (from k : ℕ) (survey : Survey) (rose : Type 0) (fault : Fault) (Q : Type 0)
-    → IsErrAnd r (λ e. e ≡ fault) → Explains o rose (IsBrokenLink o from k) fault → (SearchesFrom o asked k survey overrun → Q) → MatchResult r P (λ e. IsDamaged e → Q)
-link_fails (Ok x) P o asked from k survey rose fault Q is why so = absurd is
-link_fails (Err e) P o asked from k survey rose fault Q is why so = λ damaged. so (by e (subst (Explains o rose (IsBrokenLink o from k)) (sym is) why) damaged)
-  where
-    by : (e : Fault) → Explains o rose (IsBrokenLink o from k) e → IsDamaged e → SearchesFrom o asked k survey overrun
-    by Failed why damaged = absurd damaged
-    by OutOfMemory why damaged = absurd damaged
-    by (Damaged damage) (inl untold) damaged = never_told o asked k survey overrun untold
-    by (Damaged damage) (inr broken) damaged = no_node o asked k survey overrun broken.0
+pub link_fails : {T : Type 0} (r : Result T Fault) (P : T → Type 0) (o : Option (RecordMap NodeRecord)) (asked : Asked) (from k : ℕ) (survey : Survey) (below : Damage → Type 0) (rose : Type 0) (fault : Fault) (Q : Type 0)
+    → IsErrAnd r (λ e. e ≡ fault) → ((d : Damage) → below d → o ≡ None) → Explains below rose (IsBrokenLink o from k) fault → (SearchesFrom o asked k survey overrun → Q) → MatchResult r P (λ e. IsDamaged e → Q)
+link_fails (Ok x) P o asked from k survey below rose fault Q is untold why so = absurd is
+link_fails (Err e) P o asked from k survey below rose fault Q is untold why so = λ damaged.
+    so (undamaged below (IsBrokenLink o from k) rose (SearchesFrom o asked k survey overrun) fault (λ d told. never_told o asked k survey overrun (untold d told))
+    (λ d broken. no_node o asked k survey overrun broken.0) why (subst IsDamaged is damaged))
 
 -- ---- links that are told
 
@@ -271,12 +269,12 @@ unfolding IsNoDocument
 no_document-empty None total none = λ local number trees shows few. absurd shows.holds
 no_document-empty (Some m) total none = λ local number trees shows few. absurd (omega (arith, visits-one m None 0 trees (whole local number trees m shows), few, none))
 
-pub read_sound : {T : Type 0} (r : Result T Fault) (o : Option (RecordMap NodeRecord)) (total : ℕ) (rose : Type 0) (fault : Fault) → IsErrAnd r (λ e. e ≡ fault) → ExplainsFault o rose fault
-    → IfErr r (λ e. IsDamaged e → IsNoDocument o total)
-read_sound (Ok x) o total rose fault is why = absurd is
-read_sound (Err e) o total rose fault is why = λ damaged. by e (subst (ExplainsFault o rose) (sym is) why) damaged
+pub read_sound : {T : Type 0} (r : Result T Fault) (o : Option (RecordMap NodeRecord)) (total : ℕ) (below : Damage → Type 0) (rose : Type 0) (fault : Fault) → IsErrAnd r (λ e. e ≡ fault)
+    → ((d : Damage) → below d → o ≡ None) → ExplainsFault below rose fault → IfErr r (λ e. IsDamaged e → IsNoDocument o total)
+read_sound (Ok x) o total below rose fault is untold why = absurd is
+read_sound (Err e) o total below rose fault is untold why = λ damaged. by e (subst (ExplainsFault below rose) (sym is) why) damaged
   where
-    by : (e : Fault) → ExplainsFault o rose e → IsDamaged e → IsNoDocument o total
+    by : (e : Fault) → ExplainsFault below rose e → IsDamaged e → IsNoDocument o total
     by Failed why damaged = absurd damaged
     by OutOfMemory why damaged = absurd damaged
-    by (Damaged damage) why damaged = no_document-untold o total why
+    by (Damaged damage) why damaged = no_document-untold o total (untold damage why)

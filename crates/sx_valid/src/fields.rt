@@ -6,7 +6,8 @@ ghost use Rattle.sx_outside.specs.Faults.{Rose};
 ghost use Rattle.sx_tree.specs.declared.record.Kind.TheVariants.{Key};
 ghost use Rattle.sx_view.specs.Rows.{row_of};
 ghost use Rattle.sx_model.specs.Tree.{is_key, is_object};
-ghost use Rattle.sx_cursor.specs.Damage.{Explains, IsDamaged, IsLinked};
+ghost use Rattle.sx_view.specs.Records.{Explains, IsDamaged};
+ghost use Rattle.sx_cursor.specs.Damage.{IsLinked};
 ghost use Rattle.sx_cursor.specs.Told.{Tells};
 ghost use Rattle.sx_valid.specs.Fields.{IsReadOn, LacksValue, Looks, LooksOn, judged, overrun};
 ghost use Rattle.sx_valid.specs.Survey.{AreTooFew, IsJudged};
@@ -68,7 +69,7 @@ fn look_at<N: Records<NodeRecord>>(
     ensures found { IfOk result (λ found. Tells (N.told records.old) to (Some (row_of found))) }
     ensures room { IfOk result (λ _. 0 < left) }
     ensures none { IfErr result (λ fault. IsDamaged fault → (left ≡ 0) ⊎ Tells (N.told records.old) to None) }
-    ensures fault { IfErr result (Explains (N.told records.old) (Rose (N.faults records.old) (N.faults records.new)) (IsBroken (N.told records.old) count)) }
+    ensures fault { IfErr result (Explains (N.damages records.old) (Rose (N.faults records.old) (N.faults records.new)) (IsBroken (N.told records.old) count)) }
     ensures gets { N.gets records.new ≤ N.gets records.old + 1 }
     ensures within { N.gets records.new ≤ N.gets records.old + left }
     ensures never_falls { N.faults records.old ≤ N.faults records.new }
@@ -95,7 +96,7 @@ fn value_of<N: Records<NodeRecord>>(
     ensures found { IfOk result (λ found. (to : ℕ) × (key.now.first ≡ Some to) × Tells (N.told records.old) to (Some (row_of found))) }
     ensures room { IfOk result (λ _. 0 < left) }
     ensures none { IfErr result (λ fault. IsDamaged fault → (left ≡ 0) ⊎ LacksValue (N.told records.old) key.now.first) }
-    ensures fault { IfErr result (Explains (N.told records.old) (Rose (N.faults records.old) (N.faults records.new)) (IsBroken (N.told records.old) count)) }
+    ensures fault { IfErr result (Explains (N.damages records.old) (Rose (N.faults records.old) (N.faults records.new)) (IsBroken (N.told records.old) count)) }
     ensures within { N.gets records.new ≤ N.gets records.old + left }
     ensures gets { N.gets records.new ≤ N.gets records.old + 1 }
     ensures never_falls { N.faults records.old ≤ N.faults records.new }
@@ -121,7 +122,7 @@ impl Look {
         ensures read { IfOk result (λ _. IsReadOn (N.told records.old) self.new) }
         ensures looks { MatchResult result (LooksOn (N.told records.old) asked.entry self.old self.new) (λ fault. IsDamaged fault → Looks (N.told records.old) asked.entry self.old overrun) }
         ensures less { IfOk result (λ on. on ≡ true → self.new.left < self.old.left) }
-        ensures fault { IfErr result (Explains (N.told records.old) (Rose (N.faults records.old) (N.faults records.new)) (IsBroken (N.told records.old) count)) }
+        ensures fault { IfErr result (Explains (N.damages records.old) (Rose (N.faults records.old) (N.faults records.new)) (IsBroken (N.told records.old) count)) }
         ensures gets { IfOk result (λ _. N.gets records.new + self.new.left ≤ N.gets records.old + self.old.left) }
         ensures within { IfErr result (λ _. N.gets records.new ≤ N.gets records.old + self.old.left) }
         ensures never_falls { N.faults records.old ≤ N.faults records.new }
@@ -161,7 +162,7 @@ impl Look {
     ) -> Result<Look, Fault>
         requires read { IsReadOn (N.told records.old) self }
         ensures looks { MatchResult result (λ end. Looks (N.told records.old) asked.entry self (judged end.begun end.lasts end.left)) (λ fault. IsDamaged fault → Looks (N.told records.old) asked.entry self overrun) }
-        ensures fault { IfErr result (Explains (N.told records.old) (Rose (N.faults records.old) (N.faults records.new)) (IsBroken (N.told records.old) count)) }
+        ensures fault { IfErr result (Explains (N.damages records.old) (Rose (N.faults records.old) (N.faults records.new)) (IsBroken (N.told records.old) count)) }
         ensures gets { IfOk result (λ end. N.gets records.new + end.left ≤ N.gets records.old + self.left) }
         ensures within { IfErr result (λ _. N.gets records.new ≤ N.gets records.old + self.left) }
         ensures never_falls { N.faults records.old ≤ N.faults records.new }
@@ -187,7 +188,7 @@ pub(crate) fn judge<N: Records<NodeRecord>>(
     requires there { Tells (N.told records.old) number (Some (row_of node.now)) }
     ensures judged { IfOk result (IsJudged (N.told records.old) asked.entry node.now.kind node.now.first looks) }
     ensures too_few { IfErr result (λ fault. IsDamaged fault → AreTooFew (N.told records.old) node.now.kind node.now.first looks) }
-    ensures fault { IfErr result (Explains (N.told records.old) (Rose (N.faults records.old) (N.faults records.new)) (IsBroken (N.told records.old) count)) }
+    ensures fault { IfErr result (Explains (N.damages records.old) (Rose (N.faults records.old) (N.faults records.new)) (IsBroken (N.told records.old) count)) }
     ensures gets { IfOk result (λ answer. N.gets records.new + answer.1 ≤ N.gets records.old + looks) }
     ensures within { IfErr result (λ _. N.gets records.new ≤ N.gets records.old + looks) }
     ensures never_falls { N.faults records.old ≤ N.faults records.new }

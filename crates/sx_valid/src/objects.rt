@@ -1,7 +1,7 @@
 //! The objects of a document that are valid at a time.
 ghost use Rattle.std.specs.Prelude.{◌≡◌, ◌+◌, ◌*◌, ◌≤◌, IfErr, IfOk};
 ghost use Rattle.sx_outside.specs.Faults.{Rose};
-ghost use Rattle.sx_cursor.specs.Damage.{Explains, IsDamaged};
+ghost use Rattle.sx_view.specs.Records.{Explains, IsDamaged};
 ghost use Rattle.sx_cursor.specs.Told.{IsNoDocument};
 ghost use Rattle.sx_valid.specs.Valid.{AreValid, IsBroken};
 
@@ -37,7 +37,7 @@ pub fn valid_at<N: Records<NodeRecord>>(
 ) -> Result<Numbers, Fault>
     ensures valid { IfOk result (AreValid (N.told records.old) from.now to.now time) }
     ensures sound { IfErr result (λ fault. IsDamaged fault → IsNoDocument (N.told records.old) count) }
-    ensures fault { IfErr result (Explains (N.told records.old) (Rose (N.faults records.old) (N.faults records.new)) (IsBroken (N.told records.old) count)) }
+    ensures fault { IfErr result (Explains (N.damages records.old) (Rose (N.faults records.old) (N.faults records.new)) (IsBroken (N.told records.old) count)) }
     ensures gets { N.gets records.new ≤ N.gets records.old + (2 * count + 1) }
     ensures never_falls { N.faults records.old ≤ N.faults records.new }
     ensures keeps { N.keeps records.old records.new }

@@ -2,7 +2,7 @@
 ghost use Rattle.std.specs.Prelude.{◌≡◌, ◌+◌, ◌≤◌, ◌<◌, ◌++◌, ◌⊎◌, [], ◌∷◌, IfErr, IfOk, MatchResult, OnOk, Some, true, if◌then◌else◌};
 ghost use Rattle.sx_outside.specs.Faults.{Rose};
 ghost use Rattle.sx_view.specs.Rows.{row_of};
-ghost use Rattle.sx_cursor.specs.Damage.{Explains, IsDamaged};
+ghost use Rattle.sx_view.specs.Records.{Explains, IsDamaged};
 ghost use Rattle.sx_cursor.specs.Told.{Tells};
 ghost use Rattle.sx_valid.specs.Survey.{AreLinked, GoesInto, GoesOn, Searches, SearchesFrom, done, links_of, overrun};
 ghost use Rattle.sx_valid.specs.Valid.{IsBroken};
@@ -73,7 +73,7 @@ impl Survey {
         ensures goes { MatchResult result (λ _. GoesInto (N.told records.old) asked.entry number self.old self.new)
             (λ fault. IsDamaged fault → SearchesFrom (N.told records.old) asked.entry number self.old overrun) }
         ensures less { OnOk result (self.new.left + 1 ≡ self.old.left) }
-        ensures fault { IfErr result (Explains (N.told records.old) (Rose (N.faults records.old) (N.faults records.new)) (IsBroken (N.told records.old) count)) }
+        ensures fault { IfErr result (Explains (N.damages records.old) (Rose (N.faults records.old) (N.faults records.new)) (IsBroken (N.told records.old) count)) }
         ensures gets { OnOk result (N.gets records.new + self.new.looks ≤ N.gets records.old + self.old.looks) }
         ensures within { N.gets records.new ≤ N.gets records.old + self.old.looks }
         ensures never_falls { N.faults records.old ≤ N.faults records.new }
@@ -102,7 +102,7 @@ impl Survey {
         ensures goes { MatchResult result (GoesOn (N.told records.old) asked.entry self.old self.new)
             (λ fault. IsDamaged fault → Searches (N.told records.old) asked.entry self.old overrun) }
         ensures less { IfOk result (λ on. on ≡ true → self.new.left < self.old.left) }
-        ensures fault { IfErr result (Explains (N.told records.old) (Rose (N.faults records.old) (N.faults records.new)) (IsBroken (N.told records.old) count)) }
+        ensures fault { IfErr result (Explains (N.damages records.old) (Rose (N.faults records.old) (N.faults records.new)) (IsBroken (N.told records.old) count)) }
         ensures gets { IfOk result (λ _. N.gets records.new + (self.new.left + self.new.looks) ≤ N.gets records.old + (self.old.left + self.old.looks)) }
         ensures within { N.gets records.new ≤ N.gets records.old + (self.old.left + self.old.looks) }
         ensures never_falls { N.faults records.old ≤ N.faults records.new }
@@ -131,7 +131,7 @@ impl Survey {
         requires linked { AreLinked (N.told records.old) self.pending.items }
         ensures goes { MatchResult result (λ found. Searches (N.told records.old) asked.entry self (done found))
             (λ fault. IsDamaged fault → Searches (N.told records.old) asked.entry self overrun) }
-        ensures fault { IfErr result (Explains (N.told records.old) (Rose (N.faults records.old) (N.faults records.new)) (IsBroken (N.told records.old) count)) }
+        ensures fault { IfErr result (Explains (N.damages records.old) (Rose (N.faults records.old) (N.faults records.new)) (IsBroken (N.told records.old) count)) }
         ensures within { N.gets records.new ≤ N.gets records.old + (self.left + self.looks) }
         ensures never_falls { N.faults records.old ≤ N.faults records.new }
         ensures keeps { N.keeps records.old records.new }
@@ -157,7 +157,7 @@ impl Survey {
         requires left { 0 < self.left }
         ensures goes { MatchResult result (λ found. SearchesFrom (N.told records.old) asked.entry number self (done found))
             (λ fault. IsDamaged fault → SearchesFrom (N.told records.old) asked.entry number self overrun) }
-        ensures fault { IfErr result (Explains (N.told records.old) (Rose (N.faults records.old) (N.faults records.new)) (IsBroken (N.told records.old) count)) }
+        ensures fault { IfErr result (Explains (N.damages records.old) (Rose (N.faults records.old) (N.faults records.new)) (IsBroken (N.told records.old) count)) }
         ensures within { N.gets records.new ≤ N.gets records.old + (self.left + self.looks) }
         ensures never_falls { N.faults records.old ≤ N.faults records.new }
         ensures keeps { N.keeps records.old records.new }

@@ -56,9 +56,15 @@ impl<R: Record> Records<R> for MemRecords<R> {
 
     ghost faults = { λ _. 0 };
 
+    ghost damages = { λ _ _. ⊥ };
+
     ghost keeps = { λ a b. (held b.slots.entries ≡ held a.slots.entries) × (at_mark b.slots b.changes ≡ at_mark a.slots a.changes) };
 
+    ghost untold = { λ a damage is. absurd is };
+
     ghost keeps_told = { λ a b kept. ap Some kept.0 };
+
+    ghost keeps_damages = { λ a b kept damage is. is };
 
     ghost keeps_itself = { λ a. (refl, refl) };
 
@@ -84,13 +90,25 @@ impl<R: Record> RecordsMut<R> for MemRecords<R> {
 
     ghost marks = { λ a b. at_mark b.slots b.changes ≡ Some (held a.slots.entries) };
 
+    ghost same_base = { λ _ _. Unit {0} };
+
     ghost same_told = { λ a b is. ap Some is };
 
     ghost same_itself = { λ a. refl };
 
     ghost same_then = { λ a b c first second. second ∙ first };
 
+    ghost same_base_itself = { λ a. tt };
+
+    ghost same_base_then = { λ a b c first second. tt };
+
+    ghost marks_same_base = { λ a b marked. tt };
+
+    ghost same_base_damages = { λ a b same damage is. is };
+
     ghost keeps_same = { λ a b kept. kept.0 };
+
+    ghost keeps_same_base = { λ a b kept. tt };
 
     ghost keeps_mark = { λ a b kept. ap is_some kept.1 };
 

@@ -1,7 +1,8 @@
 //! What reads records, and what changes them.
-ghost use Rattle.std.specs.Prelude.{◌≡◌, ◌+◌, ◌-◌, ◌^◌, ◌≤◌, Bool, IsFalse, IsTrue, Option, ℕ, min, IfOk, IfErr, IfSome, OnErr, OnOk};
+ghost use Rattle.std.specs.Prelude.{◌≡◌, ◌+◌, ◌-◌, ◌^◌, ◌≤◌, Bool, IsFalse, IsTrue, None, Option, ℕ, min, IfOk, IfErr, IfSome, OnErr, OnOk};
 ghost use Rattle.std.specs.Option.{option_map};
 ghost use Rattle.std.specs.FinMap as map;
+ghost use Rattle.sx_bytes.specs.declared.damage.Damage.{Damage};
 ghost use Rattle.sx_outside.specs.Faults.{Rose};
 ghost use Rattle.sx_view.specs.Records.{RecordMap, ExplainsFault};
 
@@ -19,6 +20,9 @@ pub trait Records<R> {
     /// How often the object below failed. The count stands still at 2^64 - 1.
     ghost faults: { Self → ℕ };
 
+    /// Which damages of what is below it the object may answer. Where it tells its records there are none.
+    ghost damages: { Self → Damage → Type 0 };
+
     /// What a call that reads leaves: all that the object tells, through whichever of its traits.
     ghost keeps: { Self → Self → Type 0 };
 
@@ -26,16 +30,20 @@ pub trait Records<R> {
     ///
     /// # Errors
     ///
-    /// `Failed` only where the faults of the object below rose; `Damaged` only where the records are not told;
-    /// `OutOfMemory`.
+    /// `Failed` only where the faults of the object below rose; `Damaged` only with a damage of the object below, and so never
+    /// where the records are told; `OutOfMemory`.
     fn get(&mut self, alloc: Global, k: u32) -> Result<Option<R>, Fault>
         ensures found { IfOk result (λ found. IfSome (told self.old) (λ records. found ≡ map.get records k)) }
-        ensures fault { IfErr result (ExplainsFault (told self.old) (Rose (faults self.old) (faults self.new))) }
+        ensures fault { IfErr result (ExplainsFault (damages self.old) (Rose (faults self.old) (faults self.new))) }
         ensures counted { gets self.new ≡ min (gets self.old + 1) (2 ^ 64 - 1) }
         ensures never_falls { faults self.old ≤ faults self.new }
         ensures keeps { keeps self.old self.new };
 
+    ghost untold: { (a : Self) (damage : Damage) → damages a damage → told a ≡ None };
+
     ghost keeps_told: { (a b : Self) → keeps a b → told b ≡ told a };
+
+    ghost keeps_damages: { (a b : Self) → keeps a b → (damage : Damage) → damages b damage → damages a damage };
 
     ghost keeps_itself: { (a : Self) → keeps a a };
 
@@ -53,12 +61,16 @@ pub trait RecordsMut<R>: Records<R> {
     /// The second has a mark, at which the records were those of the first.
     ghost marks: { Self → Self → Type 0 };
 
+    /// The two stand over the same object below, which no call that changes records changes.
+    ghost same_base: { Self → Self → Type 0 };
+
     /// Gives the number the record, instead of one that it had. Where memory runs out nothing is changed.
     fn put(&mut self, alloc: Global, k: u32, value: R) -> Result<(), AllocError>
         ensures ok { OnOk result (Self.told self.new ≡ option_map (λ records. map.insert records k value) (Self.told self.old)) }
         ensures err { OnErr result (same self.old self.new) }
         ensures same_mark { has_mark self.new ≡ has_mark self.old }
         ensures same_marked { (a : Self) → marks a self.old → marks a self.new }
+        ensures same_base { same_base self.old self.new }
         ensures same_gets { Self.gets self.new ≡ Self.gets self.old }
         ensures never_falls { Self.faults self.old ≤ Self.faults self.new };
 
@@ -68,6 +80,7 @@ pub trait RecordsMut<R>: Records<R> {
         ensures err { OnErr result (same self.old self.new) }
         ensures same_mark { has_mark self.new ≡ has_mark self.old }
         ensures same_marked { (a : Self) → marks a self.old → marks a self.new }
+        ensures same_base { same_base self.old self.new }
         ensures same_gets { Self.gets self.new ≡ Self.gets self.old }
         ensures never_falls { Self.faults self.old ≤ Self.faults self.new };
 
@@ -76,6 +89,7 @@ pub trait RecordsMut<R>: Records<R> {
         ensures has_mark { IsTrue (has_mark self.new) }
         ensures marked { marks self.old self.new }
         ensures same { same self.old self.new }
+        ensures same_base { same_base self.old self.new }
         ensures same_gets { Self.gets self.new ≡ Self.gets self.old }
         ensures never_falls { Self.faults self.old ≤ Self.faults self.new };
 
@@ -84,6 +98,7 @@ pub trait RecordsMut<R>: Records<R> {
         requires { IsTrue (has_mark self.old) }
         ensures restored { (a : Self) → marks a self.old → same a self.new }
         ensures no_mark { IsFalse (has_mark self.new) }
+        ensures same_base { same_base self.old self.new }
         ensures same_gets { Self.gets self.new ≡ Self.gets self.old }
         ensures never_falls { Self.faults self.old ≤ Self.faults self.new };
 
@@ -91,6 +106,7 @@ pub trait RecordsMut<R>: Records<R> {
     fn keep(&mut self)
         ensures same { same self.old self.new }
         ensures no_mark { IsFalse (has_mark self.new) }
+        ensures same_base { same_base self.old self.new }
         ensures same_gets { Self.gets self.new ≡ Self.gets self.old }
         ensures never_falls { Self.faults self.old ≤ Self.faults self.new };
 
@@ -100,7 +116,17 @@ pub trait RecordsMut<R>: Records<R> {
 
     ghost same_then: { (a b c : Self) → same a b → same b c → same a c };
 
+    ghost same_base_itself: { (a : Self) → same_base a a };
+
+    ghost same_base_then: { (a b c : Self) → same_base a b → same_base b c → same_base a c };
+
+    ghost marks_same_base: { (a b : Self) → marks a b → same_base a b };
+
+    ghost same_base_damages: { (a b : Self) → same_base a b → (damage : Damage) → Self.damages b damage → Self.damages a damage };
+
     ghost keeps_same: { (a b : Self) → Self.keeps a b → same a b };
+
+    ghost keeps_same_base: { (a b : Self) → Self.keeps a b → same_base a b };
 
     ghost keeps_mark: { (a b : Self) → Self.keeps a b → has_mark b ≡ has_mark a };
 

@@ -1,5 +1,5 @@
 //! The frames of a leaf.
-ghost use Rattle.std.specs.Prelude.{◌≡◌, ◌≤◌, [], length};
+ghost use Rattle.std.specs.Prelude.{◌≡◌, ◌-◌, ◌≤◌, ◌<◌, ◌++◌, [], ◌∷◌, length, take};
 
 use std::marker::Model;
 
@@ -37,5 +37,28 @@ impl Refs {
         ensures short { length self.now ≤ 8 }
     {
         &self.row[..self.len]
+    }
+
+    /// Puts a number behind the others.
+    pub fn push(&mut self, number: u32)
+        requires { length self.old < 8 }
+        ensures { self.new ≡ self.old ++ (number ∷ []) }
+    {
+        self.row[self.len] = number;
+        self.len += 1;
+    }
+
+    /// The number in front of the first ones of these, so that there are at most `most`.
+    pub fn slide(&self, number: u32, most: usize) -> Refs
+        requires { (1 ≤ most) × (most ≤ 8) }
+        ensures { result ≡ number ∷ take (most - 1) self.now }
+    {
+        let mut refs = Refs::new();
+        refs.push(number);
+        let kept = self.len.min(most - 1);
+        for old in &self.row[..kept] {
+            refs.push(*old);
+        }
+        refs
     }
 }

@@ -8,6 +8,7 @@ mod node_list;
 mod path_list;
 #[cfg(test)]
 mod tests;
+mod views;
 mod writing;
 
 pub use document::{Document, read};

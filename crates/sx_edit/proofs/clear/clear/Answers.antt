@@ -33,7 +33,7 @@ pub returns-in_err-leave_path-clause-fault : goal.returns-in_err-leave_path-clau
 returns-in_err-leave_path-clause-fault g c =
     λ reach own next_is there first_is.
     let met = c.loop-turn.invariant.met in
-    err_again c.from_residual-in_err-leave_path.result _ _ c.from_residual-in_err-leave_path.ensures.1 (breach_explains reach _ _ _ _
+    err_again c.from_residual-in_err-leave_path.result _ _ c.from_residual-in_err-leave_path.ensures.1 (breach_explains reach _ _ (g.N.Records.damages c.args.nodes.now) _ _
     (c.in_err-leave_path.ensures.fault (g.N.Records.told c.args.nodes.now) _ reach 0 met.0
     (subst (λ o. IsRecord o c.in-Some.link.to c.in_ok-entry.entry) c.loop-turn.invariant.same c.in_ok-entry.ensures.found)
     (comes-to _ reach.node own c.args.first met.0 c.in-Some.link.to _ _ there first_is met.1.0 c.in-Some.ensures.some) met.1.2))
@@ -46,8 +46,8 @@ returns-in_err-entry-clause-cannot g c =
 pub returns-in_err-entry-clause-fault : goal.returns-in_err-entry-clause-fault
 returns-in_err-entry-clause-fault g c =
     λ reach own next_is there first_is.
-    if_err-then c.from_residual-in_err-entry.result _ _ (λ fault. nodes-explain reach c.args.next _ _ _ fault next_is)
-    (err-explains g.N.Records.told g.N.Records.faults g.N.RecordsMut.has_mark g.N.RecordsMut.marks c.args.next _ c.loop-turn.nodes _ c.from_residual-in_err-entry.result _
+    if_err-then c.from_residual-in_err-entry.result _ _ (λ fault. nodes-explain reach c.args.next _ _ (g.N.Records.damages c.args.nodes.now) _ fault next_is)
+    (err-explains g.N.Records.told g.N.Records.faults g.N.Records.damages g.N.RecordsMut.has_mark g.N.RecordsMut.marks c.args.next _ c.loop-turn.nodes _ c.from_residual-in_err-entry.result _
     c.from_residual-in_err-entry.ensures.1 c.loop-turn.invariant.goes_on c.loop-turn.invariant.same (c.in_err-entry.ensures.fault c.args.next))
 
 pub returns-in-Some-pop_link-clause-cannot : goal.returns-in-Some-pop_link-clause-cannot
@@ -57,8 +57,8 @@ returns-in-Some-pop_link-clause-cannot g c = λ _.
 pub returns-in-Some-pop_link-clause-fault : goal.returns-in-Some-pop_link-clause-fault
 returns-in-Some-pop_link-clause-fault g c = λ reach own next_is there first_is.
     let met = c.loop-turn.invariant.met in
-    node-damage reach c.args.next _ _ _ next_is
-    (endless_explains _ _ _ (inl (walks-endless preorder _ c.args.next c.args.first met.0 _ _ (subst (Walks preorder (g.N.Records.told c.args.nodes.now) (first_tops c.args.first) met.0) c.in-Some-pop_link.ensures.some met.1.0) (met.1.1 ∙ omega arith))) c.endless.ensures)
+    node-damage reach c.args.next _ _ (g.N.Records.damages c.args.nodes.now) _ next_is
+    (endless_explains _ _ (g.N.Records.damages c.args.nodes.now) _ (inl (walks-endless preorder _ c.args.next c.args.first met.0 _ _ (subst (Walks preorder (g.N.Records.told c.args.nodes.now) (first_tops c.args.first) met.0) c.in-Some-pop_link.ensures.some met.1.0) (met.1.1 ∙ omega arith))) c.endless.ensures)
 
 pub loop-turn-init : goal.loop-turn-init
 loop-turn-init g c =
@@ -71,7 +71,7 @@ loop-turn-init g c =
       gets = omega arith;
       same = refl;
       same_mark = refl;
-      goes_on = goes_itself g.N.Records.told g.N.Records.faults g.N.RecordsMut.has_mark g.N.RecordsMut.marks c.args.nodes.now;
+      goes_on = goes_itself g.N.Records.told g.N.Records.faults g.N.Records.damages g.N.RecordsMut.has_mark g.N.RecordsMut.marks c.args.nodes.now;
     }
 
 pub loop-turn-preserved : goal.loop-turn-preserved
@@ -101,7 +101,7 @@ loop-turn-preserved g c =
       gets = omega (arith, inv.gets, c.in_ok-entry.ensures.gets, pushed-length _ _ _ c.in_ok-push_number.ensures);
       same = c.in_ok-entry.ensures.same ∙ inv.same;
       same_mark = c.in_ok-leave_path.ensures.same_mark ∙ inv.same_mark;
-      goes_on = goes_then told g.N.Records.faults g.N.RecordsMut.has_mark g.N.RecordsMut.marks _ _ _ inv.goes_on c.in_ok-entry.ensures.goes_on;
+      goes_on = goes_then told g.N.Records.faults g.N.Records.damages g.N.RecordsMut.has_mark g.N.RecordsMut.marks _ _ _ inv.goes_on c.in_ok-entry.ensures.goes_on;
     }
 
 pub returns-in_default-clause-drifts : goal.returns-in_default-clause-drifts

@@ -30,7 +30,7 @@ returns-in-Some-at-clause-cannot g c = λ _. c.loop-turn.invariant.counts _ (cou
 pub returns-in-Some-at-clause-fault : goal.returns-in-Some-at-clause-fault
 returns-in-Some-at-clause-fault g c =
     let met = c.loop-turn.invariant.met in
-    endless_explains _ _ _ (inr (inr (walks-endless to_parent _ c.args.next c.args.node met.0 _ [] (subst (λ at. Walks to_parent (g.N.Records.told c.args.nodes.now) (first_tops c.args.node) met.0 (first_tops at)) c.in-Some-at.is met.1.0) (met.1.1 ∙ omega arith)))) c.endless.ensures
+    endless_explains _ _ (g.N.Records.damages c.args.nodes.now) _ (inr (inr (walks-endless to_parent _ c.args.next c.args.node met.0 _ [] (subst (λ at. Walks to_parent (g.N.Records.told c.args.nodes.now) (first_tops c.args.node) met.0 (first_tops at)) c.in-Some-at.is met.1.0) (met.1.1 ∙ omega arith)))) c.endless.ensures
 
 pub returns-in_err-record-clause-cannot : goal.returns-in_err-record-clause-cannot
 returns-in_err-record-clause-cannot g c =
@@ -39,7 +39,7 @@ returns-in_err-record-clause-cannot g c =
 
 pub returns-in_err-record-clause-fault : goal.returns-in_err-record-clause-fault
 returns-in_err-record-clause-fault g c =
-    err-explains g.N.Records.told g.N.Records.faults g.N.RecordsMut.has_mark g.N.RecordsMut.marks c.args.next _ c.loop-turn.nodes _ c.from_residual.result _ c.from_residual.ensures.1
+    err-explains g.N.Records.told g.N.Records.faults g.N.Records.damages g.N.RecordsMut.has_mark g.N.RecordsMut.marks c.args.next _ c.loop-turn.nodes _ c.from_residual.result _ c.from_residual.ensures.1
     c.loop-turn.invariant.goes_on c.loop-turn.invariant.same (c.in_err-record.ensures.fault c.args.next)
 
 pub loop-turn-preserved : goal.loop-turn-preserved
@@ -65,5 +65,5 @@ loop-turn-preserved g c =
       reached = leads-reached (told c.args.nodes.now) c.in-Some.number record_is.parent (leads-parent (told c.args.nodes.now) c.in-Some.number record_is there record_is.parent refl);
       gets = omega (arith, inv.gets, c.in_ok-record.ensures.gets, pushed-length _ _ _ c.in_ok-push_seen.ensures);
       same = c.in_ok-record.ensures.same ∙ inv.same;
-      goes_on = goes_then told g.N.Records.faults g.N.RecordsMut.has_mark g.N.RecordsMut.marks _ _ _ inv.goes_on c.in_ok-record.ensures.goes_on;
+      goes_on = goes_then told g.N.Records.faults g.N.Records.damages g.N.RecordsMut.has_mark g.N.RecordsMut.marks _ _ _ inv.goes_on c.in_ok-record.ensures.goes_on;
     }

@@ -21,5 +21,5 @@ invariant-loop-turn g l =
       reached : IfSome l.at (λ to. IsReached (told l.fn.nodes) l.child to);
       gets : g.N.Records.gets l.nodes ≤ g.N.Records.gets l.fn.nodes + length l.seen.items;
       same : told l.nodes ≡ told l.fn.nodes;
-      goes_on : GoesOn told g.N.Records.faults g.N.RecordsMut.has_mark g.N.RecordsMut.marks l.fn.nodes l.nodes;
+      goes_on : GoesOn told g.N.Records.faults g.N.Records.damages g.N.RecordsMut.has_mark g.N.RecordsMut.marks l.fn.nodes l.nodes;
     }

@@ -23,7 +23,7 @@ returns-in_err-right-clause-cannot g c =
 
 pub returns-in_err-right-clause-fault : goal.returns-in_err-right-clause-fault
 returns-in_err-right-clause-fault g c =
-    err-explains g.N.Records.told g.N.Records.faults g.N.RecordsMut.has_mark g.N.RecordsMut.marks c.args.next c.args.nodes.now _ _ c.from_residual-in_err-right.result _ c.from_residual-in_err-right.ensures.1
+    err-explains g.N.Records.told g.N.Records.faults g.N.Records.damages g.N.RecordsMut.has_mark g.N.RecordsMut.marks c.args.next c.args.nodes.now _ _ c.from_residual-in_err-right.result _ c.from_residual-in_err-right.ensures.1
     c.in_ok-left.ensures.goes_on c.in_ok-left.ensures.same (c.in_err-right.ensures.fault c.args.next)
 
 pub returns-in_err-ascent-clause-cannot : goal.returns-in_err-ascent-clause-cannot
@@ -33,8 +33,8 @@ returns-in_err-ascent-clause-cannot g c =
 
 pub returns-in_err-ascent-clause-fault : goal.returns-in_err-ascent-clause-fault
 returns-in_err-ascent-clause-fault g c =
-    err-explains g.N.Records.told g.N.Records.faults g.N.RecordsMut.has_mark g.N.RecordsMut.marks c.args.next c.args.nodes.now _ _ c.from_residual-in_err-ascent.result _ c.from_residual-in_err-ascent.ensures.1
-    (goes_then g.N.Records.told g.N.Records.faults g.N.RecordsMut.has_mark g.N.RecordsMut.marks _ _ _ c.in_ok-left.ensures.goes_on c.in_ok-right.ensures.goes_on) (c.in_ok-right.ensures.same ∙ c.in_ok-left.ensures.same) c.in_err-ascent.ensures.fault
+    err-explains g.N.Records.told g.N.Records.faults g.N.Records.damages g.N.RecordsMut.has_mark g.N.RecordsMut.marks c.args.next c.args.nodes.now _ _ c.from_residual-in_err-ascent.result _ c.from_residual-in_err-ascent.ensures.1
+    (goes_then g.N.Records.told g.N.Records.faults g.N.Records.damages g.N.RecordsMut.has_mark g.N.RecordsMut.marks _ _ _ c.in_ok-left.ensures.goes_on c.in_ok-right.ensures.goes_on) (c.in_ok-right.ensures.same ∙ c.in_ok-left.ensures.same) c.in_err-ascent.ensures.fault
 
 pub returns-clause-rim : goal.returns-clause-rim
 returns-clause-rim g c =

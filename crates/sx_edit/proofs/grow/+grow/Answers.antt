@@ -39,12 +39,12 @@ grow_items-loop-place-init g t c =
       drifts = drifts-itself _ [] _;
       same_mark = refl;
       same_gets = refl;
-      goes_on = goes_itself g.N.Records.told g.N.Records.faults g.N.RecordsMut.has_mark g.N.RecordsMut.marks _;
+      goes_on = goes_itself g.N.Records.told g.N.Records.faults g.N.Records.damages g.N.RecordsMut.has_mark g.N.RecordsMut.marks _;
     }
 
 pub grow_items-loop-place-preserved : goal.grow_items-loop-place-preserved
 grow_items-loop-place-preserved g t c =
-    let then_on = goes_then g.N.Records.told g.N.Records.faults g.N.RecordsMut.has_mark g.N.RecordsMut.marks in
+    let then_on = goes_then g.N.Records.told g.N.Records.faults g.N.Records.damages g.N.RecordsMut.has_mark g.N.RecordsMut.marks in
     let xs = c.args.values.now in
     let here = c.loop-place-test.true in
     let grown = c.in_ok-top.ensures in
@@ -67,7 +67,7 @@ grow_members-loop-place-init g t c =
       drifts = drifts-itself _ [] _;
       same_mark = refl;
       same_gets = refl;
-      goes_on = goes_itself g.N.Records.told g.N.Records.faults g.N.RecordsMut.has_mark g.N.RecordsMut.marks _;
+      goes_on = goes_itself g.N.Records.told g.N.Records.faults g.N.Records.damages g.N.RecordsMut.has_mark g.N.RecordsMut.marks _;
     }
 
 pub grow_members-overflow_add-number-in-loop-place : goal.grow_members-overflow_add-number-in-loop-place
@@ -107,7 +107,7 @@ grow_members-hang-requires-clause-beyond g t c = λ more.
 
 pub grow_members-loop-place-preserved : goal.grow_members-loop-place-preserved
 grow_members-loop-place-preserved g t c =
-    let then_on = goes_then g.N.Records.told g.N.Records.faults g.N.RecordsMut.has_mark g.N.RecordsMut.marks in
+    let then_on = goes_then g.N.Records.told g.N.Records.faults g.N.Records.damages g.N.RecordsMut.has_mark g.N.RecordsMut.marks in
     let there = member-there _ _ _ _ _ _ c.names-names.ensures.same c.values-values.ensures.same c.loop-place-test.true c.index-names-place.is c.index-values-place.is in
     let grown = c.in_ok-top.ensures in
     let over = c.in_ok-key.ensures in

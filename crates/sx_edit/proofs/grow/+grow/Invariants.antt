@@ -18,7 +18,7 @@ invariant-grow_items-loop-place g l =
       drifts : Drifts l.children.nodes [] l.initial.paths.paths l.paths.paths;
       same_mark : l.paths.marked ≡ l.initial.paths.marked;
       same_gets : g.N.Records.gets l.nodes ≡ g.N.Records.gets l.initial.nodes;
-      goes_on : GoesOn told g.N.Records.faults g.N.RecordsMut.has_mark g.N.RecordsMut.marks l.initial.nodes l.nodes;
+      goes_on : GoesOn told g.N.Records.faults g.N.Records.damages g.N.RecordsMut.has_mark g.N.RecordsMut.marks l.initial.nodes l.nodes;
     }
 
 abbrev pub invariant-grow_members-loop-place : goal.invariant-grow_members-loop-place
@@ -30,5 +30,5 @@ invariant-grow_members-loop-place g l =
       drifts : Drifts l.children.nodes [] l.initial.paths.paths l.paths.paths;
       same_mark : l.paths.marked ≡ l.initial.paths.marked;
       same_gets : g.N.Records.gets l.nodes ≡ g.N.Records.gets l.initial.nodes;
-      goes_on : GoesOn told g.N.Records.faults g.N.RecordsMut.has_mark g.N.RecordsMut.marks l.initial.nodes l.nodes;
+      goes_on : GoesOn told g.N.Records.faults g.N.Records.damages g.N.RecordsMut.has_mark g.N.RecordsMut.marks l.initial.nodes l.nodes;
     }

@@ -20,8 +20,8 @@ returns-in_err-target-clause-answers g c = insert-unplaced _ _ _ _ _ _ _ _ c.fro
 
 pub returns-in_err-target-clause-fault : goal.returns-in_err-target-clause-fault
 returns-in_err-target-clause-fault g c =
-    again-explains_edit g.N.Records.told g.N.Records.faults g.N.RecordsMut.has_mark g.N.RecordsMut.marks (insert c.args.place (option_copied c.args.name) (value_of c.args.value.now)) c.args.next c.args.paths.now.paths c.args.nodes.now c.args.nodes.now _ c.from_residual.result _ c.from_residual.ensures.1
-    (goes_itself g.N.Records.told g.N.Records.faults g.N.RecordsMut.has_mark g.N.RecordsMut.marks c.args.nodes.now) refl (c.in_err-target.ensures.fault (insert c.args.place (option_copied c.args.name) (value_of c.args.value.now)) c.args.paths.now.paths)
+    again-explains_edit g.N.Records.told g.N.Records.faults g.N.Records.damages g.N.RecordsMut.has_mark g.N.RecordsMut.marks (insert c.args.place (option_copied c.args.name) (value_of c.args.value.now)) c.args.next c.args.paths.now.paths c.args.nodes.now c.args.nodes.now _ c.from_residual.result _ c.from_residual.ensures.1
+    (goes_itself g.N.Records.told g.N.Records.faults g.N.Records.damages g.N.RecordsMut.has_mark g.N.RecordsMut.marks c.args.nodes.now) refl (c.in_err-target.ensures.fault (insert c.args.place (option_copied c.args.name) (value_of c.args.value.now)) c.args.paths.now.paths)
 
 pub returns-in_err-check_children-clause-answers : goal.returns-in_err-check_children-clause-answers
 returns-in_err-check_children-clause-answers g c =
@@ -30,7 +30,7 @@ returns-in_err-check_children-clause-answers g c =
 
 pub returns-in_err-check_children-clause-fault : goal.returns-in_err-check_children-clause-fault
 returns-in_err-check_children-clause-fault g c =
-    again-explains_edit g.N.Records.told g.N.Records.faults g.N.RecordsMut.has_mark g.N.RecordsMut.marks (insert c.args.place (option_copied c.args.name) (value_of c.args.value.now)) c.args.next c.args.paths.now.paths c.args.nodes.now _ _ c.from_residual-in_err-check_children.result _ c.from_residual-in_err-check_children.ensures.1
+    again-explains_edit g.N.Records.told g.N.Records.faults g.N.Records.damages g.N.RecordsMut.has_mark g.N.RecordsMut.marks (insert c.args.place (option_copied c.args.name) (value_of c.args.value.now)) c.args.next c.args.paths.now.paths c.args.nodes.now _ _ c.from_residual-in_err-check_children.result _ c.from_residual-in_err-check_children.ensures.1
     c.in_ok-target.ensures.goes_on c.in_ok-target.ensures.same (c.in_err-check_children.ensures.fault (insert c.args.place (option_copied c.args.name) (value_of c.args.value.now)) c.args.paths.now.paths)
 
 pub check_children-requires : goal.check_children-requires
@@ -46,8 +46,8 @@ returns-in_err-rim-clause-answers g c =
 
 pub returns-in_err-rim-clause-fault : goal.returns-in_err-rim-clause-fault
 returns-in_err-rim-clause-fault g c =
-    err-explains_edit g.N.Records.told g.N.Records.faults g.N.RecordsMut.has_mark g.N.RecordsMut.marks (insert c.args.place (option_copied c.args.name) (value_of c.args.value.now)) c.args.next c.args.paths.now.paths c.args.nodes.now _ _ c.from_residual-in_err-rim.result _ c.from_residual-in_err-rim.ensures.1
-    (goes_then g.N.Records.told g.N.Records.faults g.N.RecordsMut.has_mark g.N.RecordsMut.marks _ _ _ c.in_ok-target.ensures.goes_on c.in_ok-check_children.ensures.goes_on) (c.in_ok-check_children.ensures.same ∙ c.in_ok-target.ensures.same) c.in_err-rim.ensures.fault
+    err-explains_edit g.N.Records.told g.N.Records.faults g.N.Records.damages g.N.RecordsMut.has_mark g.N.RecordsMut.marks (insert c.args.place (option_copied c.args.name) (value_of c.args.value.now)) c.args.next c.args.paths.now.paths c.args.nodes.now _ _ c.from_residual-in_err-rim.result _ c.from_residual-in_err-rim.ensures.1
+    (goes_then g.N.Records.told g.N.Records.faults g.N.Records.damages g.N.RecordsMut.has_mark g.N.RecordsMut.marks _ _ _ c.in_ok-target.ensures.goes_on c.in_ok-check_children.ensures.goes_on) (c.in_ok-check_children.ensures.same ∙ c.in_ok-target.ensures.same) c.in_err-rim.ensures.fault
 
 pub returns-in_err-more-clause-answers : goal.returns-in_err-more-clause-answers
 returns-in_err-more-clause-answers g c =
@@ -55,7 +55,7 @@ returns-in_err-more-clause-answers g c =
     (checks-there _ _ _ _ _ _ c.in_ok-target.ensures.same c.in_ok-check_children.ensures.checks) (c.in_ok-check_children.ensures.same ∙ c.in_ok-target.ensures.same) (count-below _ _ _ _ c.is_object-in_object.ensures c.new_keys.ensures.is) (c.in_err-more.ensures.room _ _ c.in_ok-rim.ensures.counted)
 
 pub returns-in_err-more-clause-fault : goal.returns-in_err-more-clause-fault
-returns-in_err-more-clause-fault g c = err_again c.from_residual-in_err-more.result _ _ c.from_residual-in_err-more.ensures.1 (refused-explains (insert c.args.place (option_copied c.args.name) (value_of c.args.value.now)) c.args.next _ c.args.paths.now.paths _ _ c.in_err-more.ensures.fault)
+returns-in_err-more-clause-fault g c = err_again c.from_residual-in_err-more.result _ _ c.from_residual-in_err-more.ensures.1 (refused-explains (insert c.args.place (option_copied c.args.name) (value_of c.args.value.now)) c.args.next _ c.args.paths.now.paths (g.N.Records.damages c.args.nodes.now) _ _ c.in_err-more.ensures.fault)
 
 pub returns-in-Some-clause-answers : goal.returns-in-Some-clause-answers
 returns-in-Some-clause-answers g c =
@@ -76,7 +76,7 @@ returns-in_err-path-clause-answers g c =
 
 pub returns-in_err-path-clause-fault : goal.returns-in_err-path-clause-fault
 returns-in_err-path-clause-fault g c =
-    err_again c.from_residual-in_err-path.result _ _ c.from_residual-in_err-path.ensures.1 (breach-edit_explains (insert c.args.place (option_copied c.args.name) (value_of c.args.value.now)) c.args.next (g.N.Records.told c.args.nodes.now) c.args.paths.now.paths _ _
+    err_again c.from_residual-in_err-path.result _ _ c.from_residual-in_err-path.ensures.1 (breach-edit_explains (insert c.args.place (option_copied c.args.name) (value_of c.args.value.now)) c.args.next (g.N.Records.told c.args.nodes.now) c.args.paths.now.paths (g.N.Records.damages c.args.nodes.now) _ _
     (let some = some-coming c.args.place (option_copied c.args.name) (value_of c.args.value.now) in
     let reach = reach_of (insert c.args.place (option_copied c.args.name) (value_of c.args.value.now)) c.args.next (g.N.Records.told c.args.nodes.now) in
     let new : IsNew reach c.args.next = (omega arith, omega (arith, some)) in
@@ -102,7 +102,7 @@ returns-clause-answers g c =
 
 pub returns-in_err-fill-clause-fault : goal.returns-in_err-fill-clause-fault
 returns-in_err-fill-clause-fault g c = err_again c.from_residual-in_err-fill.result _ _ c.from_residual-in_err-fill.ensures.1
-    (broken_edit-explains (insert c.args.place (option_copied c.args.name) (value_of c.args.value.now)) c.args.next (g.N.Records.told c.args.nodes.now) c.args.paths.now.paths _ _
+    (broken_edit-explains (insert c.args.place (option_copied c.args.name) (value_of c.args.value.now)) c.args.next (g.N.Records.told c.args.nodes.now) c.args.paths.now.paths (g.N.Records.damages c.args.nodes.now) _ _
     (c.in_err-fill.ensures.fault _ c.args.paths.now.paths (reach_of (insert c.args.place (option_copied c.args.name) (value_of c.args.value.now)) c.args.next (g.N.Records.told c.args.nodes.now)) []
     refl (coming-entering c.args.place (option_copied c.args.name) (value_of c.args.value.now)) (rim-there _ _ _ _ (c.in_ok-check_children.ensures.same ∙ c.in_ok-target.ensures.same) c.in_ok-rim.ensures.rim)
     c.in_ok-target.ensures.near (inl c.in_ok-path.ensures.there) c.in_ok-path.ensures.drifts))

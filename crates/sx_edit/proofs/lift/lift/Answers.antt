@@ -12,7 +12,7 @@ loop-seen-init g c = record {
   cannot = λ is. is;
   counted = λ o reach all. all;
   same_gets = refl;
-  goes_on = goes_itself g.N.Records.told g.N.Records.faults g.N.RecordsMut.has_mark g.N.RecordsMut.marks c.args.nodes.now;
+  goes_on = goes_itself g.N.Records.told g.N.Records.faults g.N.Records.damages g.N.RecordsMut.has_mark g.N.RecordsMut.marks c.args.nodes.now;
 }
 
 pub returns-in_default-fitting-clause-cannot : goal.returns-in_default-fitting-clause-cannot
@@ -37,7 +37,7 @@ loop-seen-preserved g c =
       cannot = λ rest. c.loop-seen.invariant.cannot (cannot-above _ _ _ (row_of seen.record) _ _ items rest);
       counted = λ o reach all. (counted-pop o reach _ _ _ seen c.in-Some.ensures.items (c.loop-seen.invariant.counted o reach all)).0;
       same_gets = c.in_ok-write.ensures.same_gets ∙ c.loop-seen.invariant.same_gets;
-      goes_on = goes_then g.N.Records.told g.N.Records.faults g.N.RecordsMut.has_mark g.N.RecordsMut.marks _ _ _ c.loop-seen.invariant.goes_on c.in_ok-write.ensures.goes_on;
+      goes_on = goes_then g.N.Records.told g.N.Records.faults g.N.Records.damages g.N.RecordsMut.has_mark g.N.RecordsMut.marks _ _ _ c.loop-seen.invariant.goes_on c.in_ok-write.ensures.goes_on;
     }
 
 pub returns-clause-done : goal.returns-clause-done

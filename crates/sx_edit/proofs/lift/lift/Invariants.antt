@@ -18,7 +18,7 @@ invariant-loop-seen g l =
       cannot : CannotLift (upward l.left.items) plus minus → CannotLift (upward l.fn.left.items) plus minus;
       counted : (o : Option (RecordMap NodeRecord)) (reach : Reach) → AreCounted o reach minus l.fn.left.items → AreCounted o reach minus l.left.items;
       same_gets : g.N.Records.gets l.nodes ≡ g.N.Records.gets l.fn.nodes;
-      goes_on : GoesOn told g.N.Records.faults g.N.RecordsMut.has_mark g.N.RecordsMut.marks l.fn.nodes l.nodes;
+      goes_on : GoesOn told g.N.Records.faults g.N.Records.damages g.N.RecordsMut.has_mark g.N.RecordsMut.marks l.fn.nodes l.nodes;
     }
 
 abbrev pub decreases-loop-seen : goal.decreases-loop-seen

@@ -25,7 +25,7 @@ returns-in_err-entry-clause-cannot g c =
 
 pub returns-in_err-entry-clause-fault : goal.returns-in_err-entry-clause-fault
 returns-in_err-entry-clause-fault g c =
-    err-explains g.N.Records.told g.N.Records.faults g.N.RecordsMut.has_mark g.N.RecordsMut.marks c.args.next _ c.loop-turn.nodes _ c.from_residual.result _ c.from_residual.ensures.1
+    err-explains g.N.Records.told g.N.Records.faults g.N.Records.damages g.N.RecordsMut.has_mark g.N.RecordsMut.marks c.args.next _ c.loop-turn.nodes _ c.from_residual.result _ c.from_residual.ensures.1
     c.loop-turn.invariant.goes_on c.loop-turn.invariant.same (c.in_err-entry.ensures.fault c.args.next)
 
 pub returns-then-is_named-clause-found : goal.returns-then-is_named-clause-found
@@ -37,7 +37,7 @@ read_linked-requires g c = reached-parent _ _ _ _ c.loop-turn.invariant.same (in
 pub returns-in-Some-at-clause-fault : goal.returns-in-Some-at-clause-fault
 returns-in-Some-at-clause-fault g c =
     let met = c.loop-turn.invariant.met in
-    endless_explains _ _ _ (inr (inl (walks-endless to_right _ c.args.next c.args.first met.0 _ [] (subst (λ at. Walks to_right (g.N.Records.told c.args.nodes.now) (first_tops c.args.first) met.0 (first_tops at)) c.in-Some-at.is met.1.0) (met.1.1 ∙ omega arith)))) c.endless.ensures
+    endless_explains _ _ (g.N.Records.damages c.args.nodes.now) _ (inr (inl (walks-endless to_right _ c.args.next c.args.first met.0 _ [] (subst (λ at. Walks to_right (g.N.Records.told c.args.nodes.now) (first_tops c.args.first) met.0 (first_tops at)) c.in-Some-at.is met.1.0) (met.1.1 ∙ omega arith)))) c.endless.ensures
 
 pub returns-in_default-clause-work : goal.returns-in_default-clause-work
 returns-in_default-clause-work g c = c.loop-turn.invariant.work _ (keys-none _ _ _ _)
@@ -69,5 +69,5 @@ loop-turn-preserved g c =
       );
       lead = leads-right (told c.args.nodes.now) c.in-Some.number c.in_ok-entry.entry (subst (λ o. IsRecord o c.in-Some.number c.in_ok-entry.entry) c.loop-turn.invariant.same c.in_ok-entry.ensures.found) c.in_ok-entry.entry.right refl;
       same = c.in_ok-entry.ensures.same ∙ c.loop-turn.invariant.same;
-      goes_on = goes_then told g.N.Records.faults g.N.RecordsMut.has_mark g.N.RecordsMut.marks _ _ _ c.loop-turn.invariant.goes_on c.in_ok-entry.ensures.goes_on;
+      goes_on = goes_then told g.N.Records.faults g.N.Records.damages g.N.RecordsMut.has_mark g.N.RecordsMut.marks _ _ _ c.loop-turn.invariant.goes_on c.in_ok-entry.ensures.goes_on;
     }

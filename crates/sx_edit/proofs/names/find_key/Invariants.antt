@@ -19,5 +19,5 @@ invariant-loop-turn g l =
       met : (visited : List NodeRecord) × (Walks to_right (told l.fn.nodes) (first_tops l.fn.first) visited (first_tops l.at) × (length visited ≡ l._turn));
       lead : IfSome l.at (λ to. LeadsTo (told l.fn.nodes) l.from to);
       same : told l.nodes ≡ told l.fn.nodes;
-      goes_on : GoesOn told g.N.Records.faults g.N.RecordsMut.has_mark g.N.RecordsMut.marks l.fn.nodes l.nodes;
+      goes_on : GoesOn told g.N.Records.faults g.N.Records.damages g.N.RecordsMut.has_mark g.N.RecordsMut.marks l.fn.nodes l.nodes;
     }

@@ -13,8 +13,8 @@ returns-in_err-entry-clause-none g c = fault-no_place _ _ _ _ c.from_residual.re
 
 pub returns-in_err-entry-clause-fault : goal.returns-in_err-entry-clause-fault
 returns-in_err-entry-clause-fault g c =
-    λ edit table. err-explains_edit g.N.Records.told g.N.Records.faults g.N.RecordsMut.has_mark g.N.RecordsMut.marks edit c.args.next table c.args.nodes.now c.args.nodes.now _ c.from_residual.result _ c.from_residual.ensures.1
-    (goes_itself g.N.Records.told g.N.Records.faults g.N.RecordsMut.has_mark g.N.RecordsMut.marks c.args.nodes.now) refl (c.in_err-entry.ensures.fault c.args.next)
+    λ edit table. err-explains_edit g.N.Records.told g.N.Records.faults g.N.Records.damages g.N.RecordsMut.has_mark g.N.RecordsMut.marks edit c.args.next table c.args.nodes.now c.args.nodes.now _ c.from_residual.result _ c.from_residual.ensures.1
+    (goes_itself g.N.Records.told g.N.Records.faults g.N.Records.damages g.N.RecordsMut.has_mark g.N.RecordsMut.marks c.args.nodes.now) refl (c.in_err-entry.ensures.fault c.args.next)
 
 pub returns-in_default-clause-none : goal.returns-in_default-clause-none
 returns-in_default-clause-none g c = beside-absent _ _ _ _ _ c.in_ok-entry.ensures.found c.in_default.is
@@ -30,7 +30,7 @@ returns-in_err-above-clause-none g c =
 
 pub returns-in_err-above-clause-fault : goal.returns-in_err-above-clause-fault
 returns-in_err-above-clause-fault g c =
-    λ edit table. err-explains_edit g.N.Records.told g.N.Records.faults g.N.RecordsMut.has_mark g.N.RecordsMut.marks edit c.args.next table c.args.nodes.now _ _ c.from_residual-in_err-above.result _ c.from_residual-in_err-above.ensures.1
+    λ edit table. err-explains_edit g.N.Records.told g.N.Records.faults g.N.Records.damages g.N.RecordsMut.has_mark g.N.RecordsMut.marks edit c.args.next table c.args.nodes.now _ _ c.from_residual-in_err-above.result _ c.from_residual-in_err-above.ensures.1
     c.in_ok-entry.ensures.goes_on c.in_ok-entry.ensures.same (c.in_err-above.ensures.fault c.args.next)
 
 pub returns-then-is_key-clause-none : goal.returns-then-is_key-clause-none

@@ -10,7 +10,7 @@ invariant-loop-node g l =
     record {
       erases : option_map (without l.left.items) (told l.nodes) ≡ option_map (without l.fn.left.items) (told l.fn.nodes);
       same_gets : g.N.Records.gets l.nodes ≡ g.N.Records.gets l.fn.nodes;
-      goes_on : GoesOn told g.N.Records.faults g.N.RecordsMut.has_mark g.N.RecordsMut.marks l.fn.nodes l.nodes;
+      goes_on : GoesOn told g.N.Records.faults g.N.Records.damages g.N.RecordsMut.has_mark g.N.RecordsMut.marks l.fn.nodes l.nodes;
     }
 
 abbrev pub decreases-loop-node : goal.decreases-loop-node

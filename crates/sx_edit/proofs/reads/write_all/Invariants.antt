@@ -10,7 +10,7 @@ invariant-loop-seen g l =
     record {
       writes : option_map (with_records l.left.items) (told l.nodes) ≡ option_map (with_records l.fn.left.items) (told l.fn.nodes);
       same_gets : g.N.Records.gets l.nodes ≡ g.N.Records.gets l.fn.nodes;
-      goes_on : GoesOn told g.N.Records.faults g.N.RecordsMut.has_mark g.N.RecordsMut.marks l.fn.nodes l.nodes;
+      goes_on : GoesOn told g.N.Records.faults g.N.Records.damages g.N.RecordsMut.has_mark g.N.RecordsMut.marks l.fn.nodes l.nodes;
     }
 
 abbrev pub decreases-loop-seen : goal.decreases-loop-seen

@@ -19,8 +19,8 @@ returns-in_err-entry-clause-answers g c =
 
 pub returns-in_err-entry-clause-fault : goal.returns-in_err-entry-clause-fault
 returns-in_err-entry-clause-fault g c =
-    err-explains_edit g.N.Records.told g.N.Records.faults g.N.RecordsMut.has_mark g.N.RecordsMut.marks (remove c.args.node) c.args.next c.args.paths.now.paths c.args.nodes.now c.args.nodes.now _ c.from_residual.result _ c.from_residual.ensures.1
-    (goes_itself g.N.Records.told g.N.Records.faults g.N.RecordsMut.has_mark g.N.RecordsMut.marks c.args.nodes.now) refl (c.in_err-entry.ensures.fault c.args.next)
+    err-explains_edit g.N.Records.told g.N.Records.faults g.N.Records.damages g.N.RecordsMut.has_mark g.N.RecordsMut.marks (remove c.args.node) c.args.next c.args.paths.now.paths c.args.nodes.now c.args.nodes.now _ c.from_residual.result _ c.from_residual.ensures.1
+    (goes_itself g.N.Records.told g.N.Records.faults g.N.Records.damages g.N.RecordsMut.has_mark g.N.RecordsMut.marks c.args.nodes.now) refl (c.in_err-entry.ensures.fault c.args.next)
 
 pub returns-in_default-clause-answers : goal.returns-in_default-clause-answers
 unfolding AnswersEach
@@ -40,7 +40,7 @@ returns-in_err-above-clause-answers g c =
 
 pub returns-in_err-above-clause-fault : goal.returns-in_err-above-clause-fault
 returns-in_err-above-clause-fault g c =
-    err-explains_edit g.N.Records.told g.N.Records.faults g.N.RecordsMut.has_mark g.N.RecordsMut.marks (remove c.args.node) c.args.next c.args.paths.now.paths c.args.nodes.now _ _ c.from_residual-in_err-above.result _ c.from_residual-in_err-above.ensures.1
+    err-explains_edit g.N.Records.told g.N.Records.faults g.N.Records.damages g.N.RecordsMut.has_mark g.N.RecordsMut.marks (remove c.args.node) c.args.next c.args.paths.now.paths c.args.nodes.now _ _ c.from_residual-in_err-above.result _ c.from_residual-in_err-above.ensures.1
     c.in_ok-entry.ensures.goes_on c.in_ok-entry.ensures.same (c.in_err-above.ensures.fault c.args.next)
 
 pub returns-then-is_key-clause-answers : goal.returns-then-is_key-clause-answers
@@ -55,7 +55,7 @@ returns-in_err-tree-clause-answers g c =
 
 pub returns-in_err-tree-clause-fault : goal.returns-in_err-tree-clause-fault
 returns-in_err-tree-clause-fault g c =
-    miscounted-explains_edit (remove c.args.node) c.args.next _ c.args.paths.now.paths _ c.from_residual-in_err-tree.result _ c.from_residual-in_err-tree.ensures.1
+    miscounted-explains_edit (remove c.args.node) c.args.next _ c.args.paths.now.paths (g.N.Records.damages c.args.nodes.now) _ c.from_residual-in_err-tree.result _ c.from_residual-in_err-tree.ensures.1
     (at-most_miscounted _ (reach_of (remove c.args.node) c.args.next (g.N.Records.told c.args.nodes.now)) _ (c.in_err-tree.ensures.fault _ (reach_of (remove c.args.node) c.args.next (g.N.Records.told c.args.nodes.now)) refl (λ m e. sym (c.in_ok-entry.ensures.found m e) ∙ c.in-Some.is)))
 
 pub survey-requires-clause-reached : goal.survey-requires-clause-reached
@@ -71,8 +71,8 @@ returns-in_err-rim-clause-answers g c =
 
 pub returns-in_err-rim-clause-fault : goal.returns-in_err-rim-clause-fault
 returns-in_err-rim-clause-fault g c =
-    err-explains_edit g.N.Records.told g.N.Records.faults g.N.RecordsMut.has_mark g.N.RecordsMut.marks (remove c.args.node) c.args.next c.args.paths.now.paths c.args.nodes.now _ _ c.from_residual-in_err-rim.result _ c.from_residual-in_err-rim.ensures.1
-    (goes_then g.N.Records.told g.N.Records.faults g.N.RecordsMut.has_mark g.N.RecordsMut.marks _ _ _ c.in_ok-entry.ensures.goes_on c.in_ok-above.ensures.goes_on) (c.in_ok-above.ensures.same ∙ c.in_ok-entry.ensures.same) c.in_err-rim.ensures.fault
+    err-explains_edit g.N.Records.told g.N.Records.faults g.N.Records.damages g.N.RecordsMut.has_mark g.N.RecordsMut.marks (remove c.args.node) c.args.next c.args.paths.now.paths c.args.nodes.now _ _ c.from_residual-in_err-rim.result _ c.from_residual-in_err-rim.ensures.1
+    (goes_then g.N.Records.told g.N.Records.faults g.N.Records.damages g.N.RecordsMut.has_mark g.N.RecordsMut.marks _ _ _ c.in_ok-entry.ensures.goes_on c.in_ok-above.ensures.goes_on) (c.in_ok-above.ensures.same ∙ c.in_ok-entry.ensures.same) c.in_err-rim.ensures.fault
 
 pub returns-in_err-gone-clause-answers : goal.returns-in_err-gone-clause-answers
 returns-in_err-gone-clause-answers g c =
@@ -81,8 +81,8 @@ returns-in_err-gone-clause-answers g c =
 
 pub returns-in_err-gone-clause-fault : goal.returns-in_err-gone-clause-fault
 returns-in_err-gone-clause-fault g c =
-    both-explains_edit g.N.Records.told g.N.Records.faults g.N.RecordsMut.has_mark g.N.RecordsMut.marks (remove c.args.node) c.args.next c.args.paths.now.paths c.args.nodes.now _ _ c.from_residual-in_err-gone.result _ c.from_residual-in_err-gone.ensures.1
-    (goes_then g.N.Records.told g.N.Records.faults g.N.RecordsMut.has_mark g.N.RecordsMut.marks _ _ _ (goes_then g.N.Records.told g.N.Records.faults g.N.RecordsMut.has_mark g.N.RecordsMut.marks _ _ _ c.in_ok-entry.ensures.goes_on c.in_ok-above.ensures.goes_on) c.in_ok-rim.ensures.goes_on) (c.in_ok-rim.ensures.same ∙ c.in_ok-above.ensures.same ∙ c.in_ok-entry.ensures.same) (c.in_err-gone.ensures.fault (reach_of (remove c.args.node) c.args.next (g.N.Records.told c.args.nodes.now)) refl refl)
+    both-explains_edit g.N.Records.told g.N.Records.faults g.N.Records.damages g.N.RecordsMut.has_mark g.N.RecordsMut.marks (remove c.args.node) c.args.next c.args.paths.now.paths c.args.nodes.now _ _ c.from_residual-in_err-gone.result _ c.from_residual-in_err-gone.ensures.1
+    (goes_then g.N.Records.told g.N.Records.faults g.N.Records.damages g.N.RecordsMut.has_mark g.N.RecordsMut.marks _ _ _ (goes_then g.N.Records.told g.N.Records.faults g.N.Records.damages g.N.RecordsMut.has_mark g.N.RecordsMut.marks _ _ _ c.in_ok-entry.ensures.goes_on c.in_ok-above.ensures.goes_on) c.in_ok-rim.ensures.goes_on) (c.in_ok-rim.ensures.same ∙ c.in_ok-above.ensures.same ∙ c.in_ok-entry.ensures.same) (c.in_err-gone.ensures.fault (reach_of (remove c.args.node) c.args.next (g.N.Records.told c.args.nodes.now)) refl refl)
 
 pub returns-in_err-erase_all-clause-answers : goal.returns-in_err-erase_all-clause-answers
 returns-in_err-erase_all-clause-answers g c = memory-answers _ _ _ _ c.from_residual-in_err-erase_all.result c.from_residual-in_err-erase_all.ensures.1
@@ -95,7 +95,7 @@ returns-in_err-mend-clause-answers g c =
 
 pub returns-in_err-mend-clause-fault : goal.returns-in_err-mend-clause-fault
 returns-in_err-mend-clause-fault g c =
-    miscounted-explains_edit (remove c.args.node) c.args.next _ c.args.paths.now.paths _ c.from_residual-in_err-mend.result _ c.from_residual-in_err-mend.ensures.1
+    miscounted-explains_edit (remove c.args.node) c.args.next _ c.args.paths.now.paths (g.N.Records.damages c.args.nodes.now) _ c.from_residual-in_err-mend.result _ c.from_residual-in_err-mend.ensures.1
     (c.in_err-mend.ensures.fault (g.N.Records.told c.args.nodes.now) (reach_of (remove c.args.node) c.args.next (g.N.Records.told c.args.nodes.now)) refl
     (leaves-tree (g.N.Records.told c.args.nodes.now) (reach_of (remove c.args.node) c.args.next (g.N.Records.told c.args.nodes.now)) c.in-Some.entry _ _ c.in_ok-tree.tree (λ m e. sym (c.in_ok-entry.ensures.found m e) ∙ c.in-Some.is) c.in-Some-parent.is c.gap_of-gap.ensures.parent c.in_ok-tree.ensures.tree.1) (rim-there _ _ _ _ (c.in_ok-above.ensures.same ∙ c.in_ok-entry.ensures.same) c.in_ok-rim.ensures.rim))
 

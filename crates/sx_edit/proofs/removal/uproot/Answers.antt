@@ -32,7 +32,7 @@ pub returns-in_err-leave_path-clause-fault : goal.returns-in_err-leave_path-clau
 returns-in_err-leave_path-clause-fault g c =
     λ reach next_is node_is.
     let met = c.in_ok-gone.ensures.drifts in
-    err_again c.from_residual-in_err-leave_path.result _ _ c.from_residual-in_err-leave_path.ensures.1 (breach_explains reach _ _ _ _
+    err_again c.from_residual-in_err-leave_path.result _ _ c.from_residual-in_err-leave_path.ensures.1 (breach_explains reach _ _ (g.N.Records.damages c.args.nodes.now) _ _
     (c.in_err-leave_path.ensures.fault (g.N.Records.told c.args.nodes.now) _ reach 0 met.0 c.requires
     (subst (λ k. ComesTo (g.N.Records.told c.args.nodes.now) k met.0 c.args.node) (sym node_is) (comes-last _ c.args.node c.args.entry.now met.0 c.requires met.1.0)) met.1.1))
 

@@ -27,8 +27,8 @@ returns-in_err-entry-clause-answers g c =
 
 pub returns-in_err-entry-clause-fault : goal.returns-in_err-entry-clause-fault
 returns-in_err-entry-clause-fault g c =
-    err-explains_edit g.N.Records.told g.N.Records.faults g.N.RecordsMut.has_mark g.N.RecordsMut.marks (rename c.args.node c.args.name.now) c.args.next c.args.paths.now.paths c.args.nodes.now c.args.nodes.now _ c.from_residual.result _ c.from_residual.ensures.1
-    (goes_itself g.N.Records.told g.N.Records.faults g.N.RecordsMut.has_mark g.N.RecordsMut.marks c.args.nodes.now) refl (c.in_err-entry.ensures.fault c.args.next)
+    err-explains_edit g.N.Records.told g.N.Records.faults g.N.Records.damages g.N.RecordsMut.has_mark g.N.RecordsMut.marks (rename c.args.node c.args.name.now) c.args.next c.args.paths.now.paths c.args.nodes.now c.args.nodes.now _ c.from_residual.result _ c.from_residual.ensures.1
+    (goes_itself g.N.Records.told g.N.Records.faults g.N.Records.damages g.N.RecordsMut.has_mark g.N.RecordsMut.marks c.args.nodes.now) refl (c.in_err-entry.ensures.fault c.args.next)
 
 pub returns-in_default-clause-answers : goal.returns-in_default-clause-answers
 unfolding AnswersEach
@@ -44,7 +44,7 @@ returns-in_err-parent-clause-answers g c =
 
 pub returns-in_err-parent-clause-fault : goal.returns-in_err-parent-clause-fault
 returns-in_err-parent-clause-fault g c =
-    broken-explains_edit (rename c.args.node c.args.name.now) c.args.next _ c.args.paths.now.paths _ c.from_residual-in_err-parent.result _ c.from_residual-in_err-parent.ensures.1 (c.in_err-parent.ensures.fault _ c.args.next (λ m e. sym (c.in_ok-entry.ensures.found m e) ∙ c.in-Some.is) (key-below c.in-Some.entry.kind (cc)))
+    broken-explains_edit (rename c.args.node c.args.name.now) c.args.next _ c.args.paths.now.paths (g.N.Records.damages c.args.nodes.now) _ c.from_residual-in_err-parent.result _ c.from_residual-in_err-parent.ensures.1 (c.in_err-parent.ensures.fault _ c.args.next (λ m e. sym (c.in_ok-entry.ensures.found m e) ∙ c.in-Some.is) (key-below c.in-Some.entry.kind (cc)))
 
 pub returns-in_err-above-clause-answers : goal.returns-in_err-above-clause-answers
 returns-in_err-above-clause-answers g c =
@@ -54,7 +54,7 @@ returns-in_err-above-clause-answers g c =
 
 pub returns-in_err-above-clause-fault : goal.returns-in_err-above-clause-fault
 returns-in_err-above-clause-fault g c =
-    err-explains_edit g.N.Records.told g.N.Records.faults g.N.RecordsMut.has_mark g.N.RecordsMut.marks (rename c.args.node c.args.name.now) c.args.next c.args.paths.now.paths c.args.nodes.now _ _ c.from_residual-in_err-above.result _ c.from_residual-in_err-above.ensures.1
+    err-explains_edit g.N.Records.told g.N.Records.faults g.N.Records.damages g.N.RecordsMut.has_mark g.N.RecordsMut.marks (rename c.args.node c.args.name.now) c.args.next c.args.paths.now.paths c.args.nodes.now _ _ c.from_residual-in_err-above.result _ c.from_residual-in_err-above.ensures.1
     c.in_ok-entry.ensures.goes_on c.in_ok-entry.ensures.same (c.in_err-above.ensures.fault c.args.next)
 
 pub read_linked-requires : goal.read_linked-requires
@@ -74,8 +74,8 @@ relabel-requires-clause-there g c = record-there _ _ _ c.in-Some.entry (c.in_ok-
 
 pub returns-in_err-taken-clause-fault : goal.returns-in_err-taken-clause-fault
 returns-in_err-taken-clause-fault g c =
-    err-explains_edit g.N.Records.told g.N.Records.faults g.N.RecordsMut.has_mark g.N.RecordsMut.marks (rename c.args.node c.args.name.now) c.args.next c.args.paths.now.paths c.args.nodes.now _ _ c.from_residual-in_err-taken.result _ c.from_residual-in_err-taken.ensures.1
-    (goes_then g.N.Records.told g.N.Records.faults g.N.RecordsMut.has_mark g.N.RecordsMut.marks _ _ _ c.in_ok-entry.ensures.goes_on c.in_ok-above.ensures.goes_on) (c.in_ok-above.ensures.same ∙ c.in_ok-entry.ensures.same) c.in_err-taken.ensures.fault
+    err-explains_edit g.N.Records.told g.N.Records.faults g.N.Records.damages g.N.RecordsMut.has_mark g.N.RecordsMut.marks (rename c.args.node c.args.name.now) c.args.next c.args.paths.now.paths c.args.nodes.now _ _ c.from_residual-in_err-taken.result _ c.from_residual-in_err-taken.ensures.1
+    (goes_then g.N.Records.told g.N.Records.faults g.N.Records.damages g.N.RecordsMut.has_mark g.N.RecordsMut.marks _ _ _ c.in_ok-entry.ensures.goes_on c.in_ok-above.ensures.goes_on) (c.in_ok-above.ensures.same ∙ c.in_ok-entry.ensures.same) c.in_err-taken.ensures.fault
 
 pub returns-in_err-ascent-clause-answers : goal.returns-in_err-ascent-clause-answers
 returns-in_err-ascent-clause-answers g c =
@@ -84,8 +84,8 @@ returns-in_err-ascent-clause-answers g c =
 
 pub returns-in_err-ascent-clause-fault : goal.returns-in_err-ascent-clause-fault
 returns-in_err-ascent-clause-fault g c =
-    err-explains_edit g.N.Records.told g.N.Records.faults g.N.RecordsMut.has_mark g.N.RecordsMut.marks (rename c.args.node c.args.name.now) c.args.next c.args.paths.now.paths c.args.nodes.now _ _ c.from_residual-in_err-ascent.result _ c.from_residual-in_err-ascent.ensures.1
-    (goes_then g.N.Records.told g.N.Records.faults g.N.RecordsMut.has_mark g.N.RecordsMut.marks _ _ _ (goes_then g.N.Records.told g.N.Records.faults g.N.RecordsMut.has_mark g.N.RecordsMut.marks _ _ _ c.in_ok-entry.ensures.goes_on c.in_ok-above.ensures.goes_on) c.in_ok-taken.ensures.goes_on) (c.in_ok-taken.ensures.same ∙ c.in_ok-above.ensures.same ∙ c.in_ok-entry.ensures.same) c.in_err-ascent.ensures.fault
+    err-explains_edit g.N.Records.told g.N.Records.faults g.N.Records.damages g.N.RecordsMut.has_mark g.N.RecordsMut.marks (rename c.args.node c.args.name.now) c.args.next c.args.paths.now.paths c.args.nodes.now _ _ c.from_residual-in_err-ascent.result _ c.from_residual-in_err-ascent.ensures.1
+    (goes_then g.N.Records.told g.N.Records.faults g.N.Records.damages g.N.RecordsMut.has_mark g.N.RecordsMut.marks _ _ _ (goes_then g.N.Records.told g.N.Records.faults g.N.Records.damages g.N.RecordsMut.has_mark g.N.RecordsMut.marks _ _ _ c.in_ok-entry.ensures.goes_on c.in_ok-above.ensures.goes_on) c.in_ok-taken.ensures.goes_on) (c.in_ok-taken.ensures.same ∙ c.in_ok-above.ensures.same ∙ c.in_ok-entry.ensures.same) c.in_err-ascent.ensures.fault
 
 pub returns-in_err-taken-clause-answers : goal.returns-in_err-taken-clause-answers
 returns-in_err-taken-clause-answers g c =
@@ -113,7 +113,7 @@ returns-in_err-path-clause-answers g c =
 
 pub returns-in_err-path-clause-fault : goal.returns-in_err-path-clause-fault
 returns-in_err-path-clause-fault g c =
-    err_again c.from_residual-in_err-path.result _ _ c.from_residual-in_err-path.ensures.1 (breach-edit_explains (rename c.args.node c.args.name.now) c.args.next _ c.args.paths.now.paths _ _
+    err_again c.from_residual-in_err-path.result _ _ c.from_residual-in_err-path.ensures.1 (breach-edit_explains (rename c.args.node c.args.name.now) c.args.next _ c.args.paths.now.paths (g.N.Records.damages c.args.nodes.now) _ _
     (c.in_err-path.ensures.fault (g.N.Records.told c.args.nodes.now) c.args.paths.now.paths (reach_of (rename c.args.node c.args.name.now) c.args.next (g.N.Records.told c.args.nodes.now)) 0 [] (inl (c.in-Some.entry, (λ m e. sym (c.in_ok-entry.ensures.found m e) ∙ c.in-Some.is)))
     (base-of _ _ c.args.node c.in_ok-parent.parent c.in_ok-above.above _ _ (moved-there _ _ _ _ c.in_ok-entry.ensures.same c.in_ok-above.ensures.found) refl (inr (inl (c.in-Some.entry, ((λ m e. sym (c.in_ok-entry.ensures.found m e) ∙ c.in-Some.is), c.in_ok-parent.ensures.parent))))) (drifts-itself 0 [] _)))
 
@@ -130,8 +130,8 @@ returns-in_err-moved-clause-answers g c =
 
 pub returns-in_err-moved-clause-fault : goal.returns-in_err-moved-clause-fault
 returns-in_err-moved-clause-fault g c =
-    again-explains_edit g.N.Records.told g.N.Records.faults g.N.RecordsMut.has_mark g.N.RecordsMut.marks (rename c.args.node c.args.name.now) c.args.next c.args.paths.now.paths c.args.nodes.now _ _ c.from_residual-in_err-moved.result _ c.from_residual-in_err-moved.ensures.1
-    (goes_then g.N.Records.told g.N.Records.faults g.N.RecordsMut.has_mark g.N.RecordsMut.marks _ _ _ (goes_then g.N.Records.told g.N.Records.faults g.N.RecordsMut.has_mark g.N.RecordsMut.marks _ _ _ (goes_then g.N.Records.told g.N.Records.faults g.N.RecordsMut.has_mark g.N.RecordsMut.marks _ _ _ c.in_ok-entry.ensures.goes_on c.in_ok-above.ensures.goes_on) c.in_ok-taken.ensures.goes_on) c.in_ok-ascent.ensures.goes_on) (c.in_ok-ascent.ensures.same ∙ c.in_ok-taken.ensures.same ∙ c.in_ok-above.ensures.same ∙ c.in_ok-entry.ensures.same)
+    again-explains_edit g.N.Records.told g.N.Records.faults g.N.Records.damages g.N.RecordsMut.has_mark g.N.RecordsMut.marks (rename c.args.node c.args.name.now) c.args.next c.args.paths.now.paths c.args.nodes.now _ _ c.from_residual-in_err-moved.result _ c.from_residual-in_err-moved.ensures.1
+    (goes_then g.N.Records.told g.N.Records.faults g.N.Records.damages g.N.RecordsMut.has_mark g.N.RecordsMut.marks _ _ _ (goes_then g.N.Records.told g.N.Records.faults g.N.Records.damages g.N.RecordsMut.has_mark g.N.RecordsMut.marks _ _ _ (goes_then g.N.Records.told g.N.Records.faults g.N.Records.damages g.N.RecordsMut.has_mark g.N.RecordsMut.marks _ _ _ c.in_ok-entry.ensures.goes_on c.in_ok-above.ensures.goes_on) c.in_ok-taken.ensures.goes_on) c.in_ok-ascent.ensures.goes_on) (c.in_ok-ascent.ensures.same ∙ c.in_ok-taken.ensures.same ∙ c.in_ok-above.ensures.same ∙ c.in_ok-entry.ensures.same)
     (c.in_err-moved.ensures.fault c.args.paths.now.paths c.args.name.now c.in-Some.entry
     (record-there _ _ _ c.in-Some.entry (c.in_ok-ascent.ensures.same ∙ c.in_ok-taken.ensures.same ∙ c.in_ok-above.ensures.same ∙ c.in_ok-entry.ensures.same) (λ m e. sym (c.in_ok-entry.ensures.found m e) ∙ c.in-Some.is)) refl c.in_ok-path.ensures.there c.in_ok-path.ensures.drifts c.requires.few)
 
@@ -140,7 +140,7 @@ returns-in_err-relabel-clause-answers g c =
     err-answers _ _ _ _ c.from_residual-in_err-relabel.result _ c.from_residual-in_err-relabel.ensures.1 (λ damaged. absurd (subst IsDamaged c.in_err-relabel.ensures.memory damaged))
 
 pub returns-in_err-relabel-clause-fault : goal.returns-in_err-relabel-clause-fault
-returns-in_err-relabel-clause-fault g c = memory-explains_edit (rename c.args.node c.args.name.now) c.args.next _ c.args.paths.now.paths _ c.from_residual-in_err-relabel.result _ c.from_residual-in_err-relabel.ensures.1 c.in_err-relabel.ensures.memory
+returns-in_err-relabel-clause-fault g c = memory-explains_edit (rename c.args.node c.args.name.now) c.args.next _ c.args.paths.now.paths (g.N.Records.damages c.args.nodes.now) _ c.from_residual-in_err-relabel.result _ c.from_residual-in_err-relabel.ensures.1 c.in_err-relabel.ensures.memory
 
 pub returns-in_err-write_all-clause-answers : goal.returns-in_err-write_all-clause-answers
 returns-in_err-write_all-clause-answers g c = memory-answers _ _ _ _ c.from_residual-in_err-write_all.result c.from_residual-in_err-write_all.ensures.1

@@ -38,7 +38,7 @@ returns-in_err-record-clause-stops g c =
 
 pub returns-in_err-record-clause-fault : goal.returns-in_err-record-clause-fault
 returns-in_err-record-clause-fault g c =
-    λ table name own known first_is there drifts few. err-explains_edit g.N.Records.told g.N.Records.faults g.N.RecordsMut.has_mark g.N.RecordsMut.marks (rename c.args.node name) c.args.next table _ c.loop-turn.nodes _ c.from_residual-in_err-record.result _
+    λ table name own known first_is there drifts few. err-explains_edit g.N.Records.told g.N.Records.faults g.N.Records.damages g.N.RecordsMut.has_mark g.N.RecordsMut.marks (rename c.args.node name) c.args.next table _ c.loop-turn.nodes _ c.from_residual-in_err-record.result _
     c.from_residual-in_err-record.ensures.1 c.loop-turn.invariant.goes_on c.loop-turn.invariant.same (c.in_err-record.ensures.fault c.args.next)
 
 pub returns-in_err-path-clause-stops : goal.returns-in_err-path-clause-stops
@@ -49,7 +49,7 @@ pub returns-in_err-path-clause-fault : goal.returns-in_err-path-clause-fault
 returns-in_err-path-clause-fault g c =
     λ table name own known first_is there drifts few.
     let met = c.loop-turn.invariant.met in
-    err_again c.from_residual-in_err-path.result _ _ c.from_residual-in_err-path.ensures.1 (breach-edit_explains (rename c.args.node name) c.args.next _ table _ _
+    err_again c.from_residual-in_err-path.result _ _ c.from_residual-in_err-path.ensures.1 (breach-edit_explains (rename c.args.node name) c.args.next _ table (g.N.Records.damages c.args.nodes.now) _ _
     (c.in_err-path.ensures.fault (g.N.Records.told c.args.nodes.now) table (reach_of (rename c.args.node name) c.args.next (g.N.Records.told c.args.nodes.now)) (length (paths_left met.0)) (paths_left met.0)
     (inl (c.in_ok-record.record, subst (λ o. IsRecord o c.in-Some.at.to c.in_ok-record.record) c.loop-turn.invariant.same c.in_ok-record.ensures.found))
     (c.in-Some.ensures.there _ (c.loop-turn.invariant.there there)).1
@@ -67,7 +67,7 @@ returns-in_err-change_path-clause-fault g c =
     let reach = reach_of (rename c.args.node name) c.args.next (g.N.Records.told c.args.nodes.now) in
     let long = left-most met.0 in
     let turns = met.1.1 in
-    if_err-then c.from_residual-in_err-change_path.result _ _ (λ e breach. breach-edit_explains (rename c.args.node name) c.args.next _ table _ e breach)
+    if_err-then c.from_residual-in_err-change_path.result _ _ (λ e breach. breach-edit_explains (rename c.args.node name) c.args.next _ table (g.N.Records.damages c.args.nodes.now) _ e breach)
     (fault-breach (g.N.Records.told c.args.nodes.now) table reach c.from_residual-in_err-change_path.result _ c.from_residual-in_err-change_path.ensures.1
     (c.in_err-change_path.ensures.fault _ table reach (length (paths_left met.0)) met.0 c.in_ok-record.record
     (subst (λ o. IsRecord o c.in-Some.at.to c.in_ok-record.record) c.loop-turn.invariant.same c.in_ok-record.ensures.found) refl refl
@@ -86,8 +86,8 @@ returns-in-Some-pop_move-clause-stops g c = turn-endless _ _ _ _ _ _ _ c.loop-tu
 pub returns-in-Some-pop_move-clause-fault : goal.returns-in-Some-pop_move-clause-fault
 returns-in-Some-pop_move-clause-fault g c = λ table name own known first_is there drifts few.
     let met = c.loop-turn.invariant.met in
-    node-damage _ c.args.next _ _ _ refl
-    (endless_explains _ _ _ (inl (walks-endless preorder _ c.args.next c.args.first met.0 _ _ (subst (Walks preorder (g.N.Records.told c.args.nodes.now) (first_tops c.args.first) met.0) (ap goal_tops c.in-Some-pop_move.ensures.some) met.1.0) (met.1.1 ∙ omega arith))) c.endless.ensures)
+    node-damage _ c.args.next _ _ (g.N.Records.damages c.args.nodes.now) _ refl
+    (endless_explains _ _ (g.N.Records.damages c.args.nodes.now) _ (inl (walks-endless preorder _ c.args.next c.args.first met.0 _ _ (subst (Walks preorder (g.N.Records.told c.args.nodes.now) (first_tops c.args.first) met.0) (ap goal_tops c.in-Some-pop_move.ensures.some) met.1.0) (met.1.1 ∙ omega arith))) c.endless.ensures)
 
 pub loop-turn-init : goal.loop-turn-init
 loop-turn-init g c =
@@ -104,7 +104,7 @@ loop-turn-init g c =
       gets = omega arith;
       same = refl;
       same_mark = refl;
-      goes_on = goes_itself g.N.Records.told g.N.Records.faults g.N.RecordsMut.has_mark g.N.RecordsMut.marks c.args.nodes.now;
+      goes_on = goes_itself g.N.Records.told g.N.Records.faults g.N.Records.damages g.N.RecordsMut.has_mark g.N.RecordsMut.marks c.args.nodes.now;
     }
 
 pub returns-in_default-clause-walked : goal.returns-in_default-clause-walked
@@ -155,5 +155,5 @@ loop-turn-preserved g c =
       gets = omega (arith, inv.gets, c.in_ok-record.ensures.gets, pushed-length _ _ _ c.in_ok-push_seen.ensures);
       same = c.in_ok-record.ensures.same ∙ inv.same;
       same_mark = c.in_ok-change_path.ensures.same_mark ∙ c.in_ok-path.ensures.same_mark ∙ inv.same_mark;
-      goes_on = goes_then told g.N.Records.faults g.N.RecordsMut.has_mark g.N.RecordsMut.marks _ _ _ inv.goes_on c.in_ok-record.ensures.goes_on;
+      goes_on = goes_then told g.N.Records.faults g.N.Records.damages g.N.RecordsMut.has_mark g.N.RecordsMut.marks _ _ _ inv.goes_on c.in_ok-record.ensures.goes_on;
     }

@@ -29,5 +29,5 @@ invariant-loop-turn g l =
       gets : g.N.Records.gets l.nodes ≤ g.N.Records.gets l.fn.nodes + length l.moved.items;
       same : told l.nodes ≡ told l.fn.nodes;
       same_mark : l.paths.marked ≡ l.fn.paths.marked;
-      goes_on : GoesOn told g.N.Records.faults g.N.RecordsMut.has_mark g.N.RecordsMut.marks l.fn.nodes l.nodes;
+      goes_on : GoesOn told g.N.Records.faults g.N.Records.damages g.N.RecordsMut.has_mark g.N.RecordsMut.marks l.fn.nodes l.nodes;
     }

@@ -23,8 +23,8 @@ returns-in_err-entry-clause-answers g c =
 
 pub returns-in_err-entry-clause-fault : goal.returns-in_err-entry-clause-fault
 returns-in_err-entry-clause-fault g c =
-    err-explains_edit g.N.Records.told g.N.Records.faults g.N.RecordsMut.has_mark g.N.RecordsMut.marks (replace c.args.node (value_of c.args.value.now)) c.args.next c.args.paths.now.paths c.args.nodes.now c.args.nodes.now _ c.from_residual.result _ c.from_residual.ensures.1
-    (goes_itself g.N.Records.told g.N.Records.faults g.N.RecordsMut.has_mark g.N.RecordsMut.marks c.args.nodes.now) refl (c.in_err-entry.ensures.fault c.args.next)
+    err-explains_edit g.N.Records.told g.N.Records.faults g.N.Records.damages g.N.RecordsMut.has_mark g.N.RecordsMut.marks (replace c.args.node (value_of c.args.value.now)) c.args.next c.args.paths.now.paths c.args.nodes.now c.args.nodes.now _ c.from_residual.result _ c.from_residual.ensures.1
+    (goes_itself g.N.Records.told g.N.Records.faults g.N.Records.damages g.N.RecordsMut.has_mark g.N.RecordsMut.marks c.args.nodes.now) refl (c.in_err-entry.ensures.fault c.args.next)
 
 pub returns-in_default-clause-answers : goal.returns-in_default-clause-answers
 unfolding AnswersEach
@@ -40,7 +40,7 @@ returns-in_err-parent-clause-answers g c =
 
 pub returns-in_err-parent-clause-fault : goal.returns-in_err-parent-clause-fault
 returns-in_err-parent-clause-fault g c =
-    broken-explains_edit (replace c.args.node (value_of c.args.value.now)) c.args.next _ c.args.paths.now.paths _ c.from_residual-in_err-parent.result _ c.from_residual-in_err-parent.ensures.1 (c.in_err-parent.ensures.fault _ c.args.next (λ m e. sym (c.in_ok-entry.ensures.found m e) ∙ c.in-Some.is) (value-below c.in-Some.entry.kind (cc)))
+    broken-explains_edit (replace c.args.node (value_of c.args.value.now)) c.args.next _ c.args.paths.now.paths (g.N.Records.damages c.args.nodes.now) _ c.from_residual-in_err-parent.result _ c.from_residual-in_err-parent.ensures.1 (c.in_err-parent.ensures.fault _ c.args.next (λ m e. sym (c.in_ok-entry.ensures.found m e) ∙ c.in-Some.is) (value-below c.in-Some.entry.kind (cc)))
 
 pub survey-requires-clause-reached : goal.survey-requires-clause-reached
 survey-requires-clause-reached g c = c.gap_of-gap.ensures.reached _ (record-there _ _ _ c.in-Some.entry c.in_ok-entry.ensures.same (λ m e. sym (c.in_ok-entry.ensures.found m e) ∙ c.in-Some.is)) c.in_ok-parent.ensures.parent
@@ -55,7 +55,7 @@ returns-in_err-rim-clause-answers g c =
 
 pub returns-in_err-rim-clause-fault : goal.returns-in_err-rim-clause-fault
 returns-in_err-rim-clause-fault g c =
-    err-explains_edit g.N.Records.told g.N.Records.faults g.N.RecordsMut.has_mark g.N.RecordsMut.marks (replace c.args.node (value_of c.args.value.now)) c.args.next c.args.paths.now.paths c.args.nodes.now _ _ c.from_residual-in_err-rim.result _ c.from_residual-in_err-rim.ensures.1
+    err-explains_edit g.N.Records.told g.N.Records.faults g.N.Records.damages g.N.RecordsMut.has_mark g.N.RecordsMut.marks (replace c.args.node (value_of c.args.value.now)) c.args.next c.args.paths.now.paths c.args.nodes.now _ _ c.from_residual-in_err-rim.result _ c.from_residual-in_err-rim.ensures.1
     c.in_ok-entry.ensures.goes_on c.in_ok-entry.ensures.same c.in_err-rim.ensures.fault
 
 pub returns-in_err-more-clause-answers : goal.returns-in_err-more-clause-answers
@@ -64,7 +64,7 @@ returns-in_err-more-clause-answers g c =
     c.in_ok-entry.ensures.same (omega arith) (c.in_err-more.ensures.room _ _ (subst (λ k. CountsLevels (Some k) c.args.next (g.N.Records.told c.read.new.nodes) (Some c.in_ok-rim.rim.levels)) c.gap_of-gap.ensures.parent c.in_ok-rim.ensures.counted))
 
 pub returns-in_err-more-clause-fault : goal.returns-in_err-more-clause-fault
-returns-in_err-more-clause-fault g c = err_again c.from_residual-in_err-more.result _ _ c.from_residual-in_err-more.ensures.1 (refused-explains (replace c.args.node (value_of c.args.value.now)) c.args.next _ c.args.paths.now.paths _ _ c.in_err-more.ensures.fault)
+returns-in_err-more-clause-fault g c = err_again c.from_residual-in_err-more.result _ _ c.from_residual-in_err-more.ensures.1 (refused-explains (replace c.args.node (value_of c.args.value.now)) c.args.next _ c.args.paths.now.paths (g.N.Records.damages c.args.nodes.now) _ _ c.in_err-more.ensures.fault)
 
 pub returns-in_err-tree-clause-answers : goal.returns-in_err-tree-clause-answers
 returns-in_err-tree-clause-answers g c =
@@ -73,7 +73,7 @@ returns-in_err-tree-clause-answers g c =
 
 pub returns-in_err-tree-clause-fault : goal.returns-in_err-tree-clause-fault
 returns-in_err-tree-clause-fault g c =
-    miscounted-explains_edit (replace c.args.node (value_of c.args.value.now)) c.args.next _ c.args.paths.now.paths _ c.from_residual-in_err-tree.result _ c.from_residual-in_err-tree.ensures.1
+    miscounted-explains_edit (replace c.args.node (value_of c.args.value.now)) c.args.next _ c.args.paths.now.paths (g.N.Records.damages c.args.nodes.now) _ c.from_residual-in_err-tree.result _ c.from_residual-in_err-tree.ensures.1
     (at-most_miscounted _ (reach_of (replace c.args.node (value_of c.args.value.now)) c.args.next (g.N.Records.told c.args.nodes.now)) _ (c.in_err-tree.ensures.fault _ (reach_of (replace c.args.node (value_of c.args.value.now)) c.args.next (g.N.Records.told c.args.nodes.now)) refl (λ m e. sym (c.in_ok-entry.ensures.found m e) ∙ c.in-Some.is)))
 
 pub returns-in_err-gone-clause-answers : goal.returns-in_err-gone-clause-answers
@@ -83,8 +83,8 @@ returns-in_err-gone-clause-answers g c =
 
 pub returns-in_err-gone-clause-fault : goal.returns-in_err-gone-clause-fault
 returns-in_err-gone-clause-fault g c =
-    both-explains_edit g.N.Records.told g.N.Records.faults g.N.RecordsMut.has_mark g.N.RecordsMut.marks (replace c.args.node (value_of c.args.value.now)) c.args.next c.args.paths.now.paths c.args.nodes.now _ _ c.from_residual-in_err-gone.result _ c.from_residual-in_err-gone.ensures.1
-    (goes_then g.N.Records.told g.N.Records.faults g.N.RecordsMut.has_mark g.N.RecordsMut.marks _ _ _ c.in_ok-entry.ensures.goes_on c.in_ok-rim.ensures.goes_on) (c.in_ok-rim.ensures.same ∙ c.in_ok-entry.ensures.same) (c.in_err-gone.ensures.fault (reach_of (replace c.args.node (value_of c.args.value.now)) c.args.next (g.N.Records.told c.args.nodes.now)) refl refl)
+    both-explains_edit g.N.Records.told g.N.Records.faults g.N.Records.damages g.N.RecordsMut.has_mark g.N.RecordsMut.marks (replace c.args.node (value_of c.args.value.now)) c.args.next c.args.paths.now.paths c.args.nodes.now _ _ c.from_residual-in_err-gone.result _ c.from_residual-in_err-gone.ensures.1
+    (goes_then g.N.Records.told g.N.Records.faults g.N.Records.damages g.N.RecordsMut.has_mark g.N.RecordsMut.marks _ _ _ c.in_ok-entry.ensures.goes_on c.in_ok-rim.ensures.goes_on) (c.in_ok-rim.ensures.same ∙ c.in_ok-entry.ensures.same) (c.in_err-gone.ensures.fault (reach_of (replace c.args.node (value_of c.args.value.now)) c.args.next (g.N.Records.told c.args.nodes.now)) refl refl)
 
 pub returns-in_err-erase_all-clause-answers : goal.returns-in_err-erase_all-clause-answers
 returns-in_err-erase_all-clause-answers g c = memory-answers _ _ _ _ c.from_residual-in_err-erase_all.result c.from_residual-in_err-erase_all.ensures.1
@@ -98,7 +98,7 @@ returns-in_err-fill-clause-answers g c =
 pub returns-in_err-fill-clause-fault : goal.returns-in_err-fill-clause-fault
 returns-in_err-fill-clause-fault g c =
     err_again c.from_residual-in_err-fill.result _ _ c.from_residual-in_err-fill.ensures.1
-    (broken_edit-explains (replace c.args.node (value_of c.args.value.now)) c.args.next (g.N.Records.told c.args.nodes.now) c.args.paths.now.paths _ _
+    (broken_edit-explains (replace c.args.node (value_of c.args.value.now)) c.args.next (g.N.Records.told c.args.nodes.now) c.args.paths.now.paths (g.N.Records.damages c.args.nodes.now) _ _
     (c.in_err-fill.ensures.fault (g.N.Records.told c.args.nodes.now) c.args.paths.now.paths (reach_of (replace c.args.node (value_of c.args.value.now)) c.args.next (g.N.Records.told c.args.nodes.now)) _ refl refl
     (rim-there _ _ _ _ c.in_ok-entry.ensures.same c.in_ok-rim.ensures.rim)
     (leaves-tree (g.N.Records.told c.args.nodes.now) (reach_of (replace c.args.node (value_of c.args.value.now)) c.args.next (g.N.Records.told c.args.nodes.now)) c.in-Some.entry _ _ c.in_ok-tree.tree (λ m e. sym (c.in_ok-entry.ensures.found m e) ∙ c.in-Some.is) c.in_ok-parent.ensures.parent c.gap_of-gap.ensures.parent c.in_ok-tree.ensures.tree.1)

@@ -17,8 +17,8 @@ returns-in_err-entry-clause-answers g c = λ table.
 
 pub returns-in_err-entry-clause-fault : goal.returns-in_err-entry-clause-fault
 returns-in_err-entry-clause-fault g c =
-    λ table. err-explains_edit g.N.Records.told g.N.Records.faults g.N.RecordsMut.has_mark g.N.RecordsMut.marks (set_scalar c.args.node c.args.value.now) c.args.next table c.args.nodes.now c.args.nodes.now _ c.from_residual.result _ c.from_residual.ensures.1
-    (goes_itself g.N.Records.told g.N.Records.faults g.N.RecordsMut.has_mark g.N.RecordsMut.marks c.args.nodes.now) refl (c.in_err-entry.ensures.fault c.args.next)
+    λ table. err-explains_edit g.N.Records.told g.N.Records.faults g.N.Records.damages g.N.RecordsMut.has_mark g.N.RecordsMut.marks (set_scalar c.args.node c.args.value.now) c.args.next table c.args.nodes.now c.args.nodes.now _ c.from_residual.result _ c.from_residual.ensures.1
+    (goes_itself g.N.Records.told g.N.Records.faults g.N.Records.damages g.N.RecordsMut.has_mark g.N.RecordsMut.marks c.args.nodes.now) refl (c.in_err-entry.ensures.fault c.args.next)
 
 pub returns-in_default-clause-answers : goal.returns-in_default-clause-answers
 unfolding AnswersEach
@@ -44,7 +44,7 @@ returns-in_err-ascent-clause-answers g c = λ table.
 
 pub returns-in_err-ascent-clause-fault : goal.returns-in_err-ascent-clause-fault
 returns-in_err-ascent-clause-fault g c =
-    λ table. err-explains_edit g.N.Records.told g.N.Records.faults g.N.RecordsMut.has_mark g.N.RecordsMut.marks (set_scalar c.args.node c.args.value.now) c.args.next table c.args.nodes.now _ _ c.from_residual-in_err-ascent.result _ c.from_residual-in_err-ascent.ensures.1
+    λ table. err-explains_edit g.N.Records.told g.N.Records.faults g.N.Records.damages g.N.RecordsMut.has_mark g.N.RecordsMut.marks (set_scalar c.args.node c.args.value.now) c.args.next table c.args.nodes.now _ _ c.from_residual-in_err-ascent.result _ c.from_residual-in_err-ascent.ensures.1
     c.in_ok-entry.ensures.goes_on c.in_ok-entry.ensures.same c.in_err-ascent.ensures.fault
 
 pub returns-in_err-relabel-clause-answers : goal.returns-in_err-relabel-clause-answers
@@ -52,7 +52,7 @@ returns-in_err-relabel-clause-answers g c = λ table.
     err-answers _ _ _ _ c.from_residual-in_err-relabel.result _ c.from_residual-in_err-relabel.ensures.1 (λ damaged. absurd (subst IsDamaged c.in_err-relabel.ensures.memory damaged))
 
 pub returns-in_err-relabel-clause-fault : goal.returns-in_err-relabel-clause-fault
-returns-in_err-relabel-clause-fault g c = λ table. memory-explains_edit (set_scalar c.args.node c.args.value.now) c.args.next _ table _ c.from_residual-in_err-relabel.result _ c.from_residual-in_err-relabel.ensures.1 c.in_err-relabel.ensures.memory
+returns-in_err-relabel-clause-fault g c = λ table. memory-explains_edit (set_scalar c.args.node c.args.value.now) c.args.next _ table (g.N.Records.damages c.args.nodes.now) _ c.from_residual-in_err-relabel.result _ c.from_residual-in_err-relabel.ensures.1 c.in_err-relabel.ensures.memory
 
 pub returns-clause-answers : goal.returns-clause-answers
 returns-clause-answers g c = λ table.

@@ -2,7 +2,9 @@ use Rattle.std.proofs.Common.{◌≡◌, ◌≤◌, ◌<◌, [], true, arith, in
 use Rattle.std.specs.Prelude.{◌⊎◌}
 use Rattle.sx_outside.specs.Faults.{Rose}
 use Rattle.sx_select.specs.Climb.{IsPathText}
-use Rattle.sx_query.proofs.OfPaths.{broken_sound, gives_no_path, gives_path, gives_path_fault, path_fault}
+use Rattle.sx_query.proofs.OfPaths.{broken_sound, gives_no_path, gives_path, gives_path_fault}
+use Rattle.sx_query.specs.Causes.{IsBrokenPathOf, IsNoPath, Nothing}
+use Rattle.sx_query.proofs.Faults.{later_fault}
 use Rattle.sx_query.proofs.paths.answer_path.Goals as goal
 use Rattle.sx_query.proofs.paths.answer_path.Goals.{then-path-eq0-via-then-path-eq0, then-path-eq0-via-else-path-eq0+then-path-count}
 
@@ -19,7 +21,7 @@ returns-in_err-found-clause-gives g c =
     let some : 1 ≤ c.args.path = omega (arith, c.if-path-eq0.false) in
     let few : c.args.path ≤ c.args.count = omega (arith, c.if-path-count.false) in
     gives_path_fault _ _ _ _ _ _ refl c.from_residual.ensures.1 few
-    (broken_sound _ (Rose (g.P.Records.faults c.args.paths.now) (g.P.Records.faults c.read_path.new.records)) _ _ some c.in_err-found.ensures.fault)
+    (broken_sound _ _ (Rose (g.P.Records.faults c.args.paths.now) (g.P.Records.faults c.read_path.new.records)) _ _ some (g.met.P.Records.untold _) c.in_err-found.ensures.fault)
 
 pub returns-in_err-text-clause-gives : goal.returns-in_err-text-clause-gives
 returns-in_err-text-clause-gives g c =
@@ -28,7 +30,8 @@ returns-in_err-text-clause-gives g c =
 
 pub returns-in_err-text-clause-fault : goal.returns-in_err-text-clause-fault
 returns-in_err-text-clause-fault g c =
-    path_fault _ _ _ _ _ _ _ _ _ c.from_residual-in_err-text.ensures.1 c.in_ok-found.ensures.same c.in_ok-found.ensures.never_falls c.in_err-text.ensures.fault
+    later_fault _ Nothing (IsNoPath c.args.count c.args.path) _ _ _ _ _ _ _ (λ o. IsBrokenPathOf o c.args.path) _ c.from_residual-in_err-text.ensures.1
+    (g.met.P.Records.keeps_damages _ _ c.in_ok-found.ensures.keeps) c.in_ok-found.ensures.same c.in_ok-found.ensures.never_falls c.in_err-text.ensures.fault
 
 pub returns-clause-gives : goal.returns-clause-gives
 returns-clause-gives g c =

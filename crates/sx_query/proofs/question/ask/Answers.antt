@@ -30,6 +30,6 @@ returns-in-Select-clause-answers g c = over_nodes _ _ c.args.about.now _ _ _ c.i
 pub returns-in-Valid-clause-answers : goal.returns-in-Valid-clause-answers
 returns-in-Valid-clause-answers g c =
     let fits : FitsSigned w64 c.in-Valid.time = search rules in
-    let gives = subst (λ t. GivesOfNodes (g.N.Records.told c.args.nodes.now) c.args.about.now.nodes (names_of c.args.about.now) (Valid t) c.answer_valid.result)
+    let gives = subst (λ t. GivesOfNodes (g.V.Records-1.told c.args.view.now) c.args.about.now.nodes (names_of c.args.about.now) (Valid t) c.answer_valid.result)
     (to_z-of_z w64 c.in-Valid.time fits) c.answer_valid.ensures.gives in
     over_nodes _ _ c.args.about.now _ _ _ c.in-Valid.is gives

@@ -12,7 +12,7 @@ use Rattle.sx_query.proofs.walk.answer_axis.Goals as goal
 
 pub returns-in_err-record-clause-gives : goal.returns-in_err-record-clause-gives
 returns-in_err-record-clause-gives g c = λ names.
-    gives_fault _ _ c.args.count names _ _ c.from_residual.ensures.1 (got_sound _ _ _ _ c.in_err-record.ensures.fault)
+    gives_fault _ _ c.args.count names _ _ c.from_residual.ensures.1 (got_sound _ _ _ _ _ (g.met.N.Records.untold _) c.in_err-record.ensures.fault)
 
 pub returns-in_default-clause-gives : goal.returns-in_default-clause-gives
 returns-in_default-clause-gives g c =
@@ -26,7 +26,8 @@ returns-in_err-numbers-clause-gives g c = λ names.
 
 pub returns-in_err-numbers-clause-fault : goal.returns-in_err-numbers-clause-fault
 returns-in_err-numbers-clause-fault g c =
-    later_fault _ (IsAbsent (g.N.Records.told c.args.nodes.now) c.args.node) Nothing _ _ _ _ _ (λ o. IsBroken o c.args.count) _ c.from_residual-in_err-numbers.ensures.1
+    later_fault _ (IsAbsent (g.N.Records.told c.args.nodes.now) c.args.node) Nothing _ _ _ _ _ _ _ (λ o. IsBroken o c.args.count) _ c.from_residual-in_err-numbers.ensures.1
+    (g.met.N.Records.keeps_damages _ _ c.in_ok-record.ensures.keeps)
     c.in_ok-record.ensures.same c.in_ok-record.ensures.never_falls c.in_err-numbers.ensures.fault
 
 pub returns-clause-gives : goal.returns-clause-gives

@@ -4,7 +4,7 @@ use Rattle.sx_outside.specs.Faults.{Rose}
 use Rattle.sx_axes.specs.Broken.{IsBroken}
 use Rattle.sx_axes.specs.Gives.{Ends}
 use Rattle.sx_axes.specs.Walk.{Starts}
-use Rattle.sx_cursor.specs.Damage.{Explains}
+use Rattle.sx_view.specs.Records.{Explains}
 use Rattle.sx_query.proofs.Walking.{lists_all, passes_none, passes_step, step_fault, step_sound}
 use Rattle.sx_query.proofs.walk.numbers_on.Goals as goal
 
@@ -47,8 +47,8 @@ returns-in_err-step-clause-fault g c =
     let before = c.loop-step.invariant in
     let told = g.N.Records.told c.args.nodes.now in
     let rose = Rose (g.N.Records.faults c.args.nodes.now) (g.N.Records.faults c.next.new.self.records.now) in
-    let fault : IfErr c.from_residual.result (Explains told rose (IsBroken told c.args.count)) =
-    step_fault _ _ _ _ _ _ _ _ _ _ c.from_residual.ensures.1 c.in_err-step.was (g.met.N.Records.keeps_told _ _ before.keeps) before.count before.never_falls
+    let fault : IfErr c.from_residual.result (Explains (g.N.Records.damages c.args.nodes.now) rose (IsBroken told c.args.count)) =
+    step_fault _ _ _ _ _ _ _ _ _ _ _ _ c.from_residual.ensures.1 c.in_err-step.was (g.met.N.Records.keeps_damages _ _ before.keeps) (g.met.N.Records.keeps_told _ _ before.keeps) before.count before.never_falls
     c.in-Some.ensures.steps.1.fault in
     search (rules, fault)
 

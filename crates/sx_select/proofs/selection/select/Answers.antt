@@ -2,14 +2,15 @@ use Rattle.std.proofs.Common.{refl, subst}
 use Rattle.std.specs.Prelude.{option_map}
 use Rattle.sx_view.specs.Rows.{row_of}
 use Rattle.sx_cursor.specs.Told.{Tells}
-use Rattle.sx_text.proofs.Failing.{err_after}
+use Rattle.sx_view.proofs.Failing.{err-later}
+use Rattle.sx_text.specs.Text.{IsBroken}
 use Rattle.sx_text.proofs.Showing.{no_document-empty, read_sound}
 use Rattle.sx_select.specs.Selected.{Selects}
 use Rattle.sx_select.proofs.Documents.{begins, document_damaged, err_sound, from_start, selects_found, selects_nothing, visits_nothing, visits_once}
 use Rattle.sx_select.proofs.selection.select.Goals as goal
 
 pub returns-in_err-document-clause-sound : goal.returns-in_err-document-clause-sound
-returns-in_err-document-clause-sound g c = read_sound _ _ _ _ _ c.from_residual.ensures.1 c.in_err-document.ensures.fault
+returns-in_err-document-clause-sound g c = read_sound _ _ _ _ _ _ c.from_residual.ensures.1 (g.met.N.Records.untold _) c.in_err-document.ensures.fault
 
 pub returns-in_default-clause-selects : goal.returns-in_default-clause-selects
 returns-in_default-clause-selects g c =
@@ -33,7 +34,8 @@ returns-in_err-finish-clause-sound g c =
 
 pub returns-in_err-finish-clause-fault : goal.returns-in_err-finish-clause-fault
 returns-in_err-finish-clause-fault g c =
-    err_after _ _ _ _ _ _ _ _ c.from_residual-in_err-finish.ensures.1 c.in_ok-document.ensures.same c.in_ok-document.ensures.never_falls c.in_err-finish.ensures.fault
+    err-later _ (λ x. IsBroken x c.args.count) _ _ _ _ _ _ _ _ c.from_residual-in_err-finish.ensures.1 (g.met.N.Records.keeps_damages _ _ c.in_ok-document.ensures.keeps)
+    c.in_ok-document.ensures.same c.in_ok-document.ensures.never_falls c.in_err-finish.ensures.fault
 
 pub returns-clause-selects : goal.returns-clause-selects
 returns-clause-selects g c =

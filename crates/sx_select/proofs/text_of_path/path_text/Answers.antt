@@ -7,7 +7,7 @@ pub returns-then-p-eq0-clause-text : goal.returns-then-p-eq0-clause-text
 returns-then-p-eq0-clause-text g c = text-of-zero _ _ _ c.if-p-eq0.true
 
 pub returns-in_err-found-clause-sound : goal.returns-in_err-found-clause-sound
-returns-in_err-found-clause-sound g c = get-sound _ _ _ _ c.from_residual.ensures.1 c.in_err-found.ensures.fault
+returns-in_err-found-clause-sound g c = get-sound _ _ _ _ _ c.from_residual.ensures.1 (g.met.P.Records.untold _) c.in_err-found.ensures.fault
 
 pub returns-in_default-clause-text : goal.returns-in_default-clause-text
 returns-in_default-clause-text g c = text-of-absent _ _ _ _ c.in_default.is c.in_ok-found.ensures.found
@@ -20,12 +20,12 @@ returns-then-found-p-clause-fault g c =
 pub returns-then-found-p-clause-sound : goal.returns-then-found-p-clause-sound
 returns-then-found-p-clause-sound g c =
     let some : 1 ≤ c.args.p = omega (arith, c.if-p-eq0.false) in
-    λ _. none-above _ ⊥ c.args.p (Damaged c.broken_path.result)
+    λ _. none-above _ (λ _. ⊥) ⊥ c.args.p (Damaged c.broken_path.result) (λ d never. absurd never)
     (inr (broken-here _ _ c.in-Some.found _ _ some c.in-Some.is c.in_ok-found.ensures.found c.if-found-p.true c.broken_path.ensures)) tt
 
 pub returns-in_err-steps-clause-sound : goal.returns-in_err-steps-clause-sound
 returns-in_err-steps-clause-sound g c =
-    steps-sound _ _ _ _ _ _ c.from_residual-in_err-steps.ensures.1 (g.met.P.Records.keeps_told _ _ c.get.ensures.keeps) c.in_err-steps.ensures.fault
+    steps-sound _ _ _ _ _ _ _ c.from_residual-in_err-steps.ensures.1 (g.met.P.Records.keeps_told _ _ c.get.ensures.keeps) (g.met.P.Records.untold _) c.in_err-steps.ensures.fault
 
 pub returns-clause-text : goal.returns-clause-text
 returns-clause-text g c =

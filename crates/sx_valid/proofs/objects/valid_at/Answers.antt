@@ -2,13 +2,13 @@ use Rattle.std.proofs.Common.{refl, subst, sym, option_map, FitsSigned, w64}
 use Rattle.std.proofs.lemmas.Int.{to_z-of_z}
 use Rattle.sx_view.specs.Rows.{row_of}
 use Rattle.sx_cursor.specs.Told.{Tells}
-use Rattle.sx_valid.specs.Valid.{AreValid}
-use Rattle.sx_valid.proofs.Failing.{fault_then}
+use Rattle.sx_valid.specs.Valid.{AreValid, IsBroken}
+use Rattle.sx_view.proofs.Failing.{rest-later}
 use Rattle.sx_valid.proofs.Searching.{absent_valid, all_found, all_sound, no_document-empty, read_sound}
 use Rattle.sx_valid.proofs.objects.valid_at.Goals as goal
 
 pub returns-in_err-document-clause-sound : goal.returns-in_err-document-clause-sound
-returns-in_err-document-clause-sound g c = read_sound _ _ _ _ _ c.from_residual.ensures.1 c.in_err-document.ensures.fault
+returns-in_err-document-clause-sound g c = read_sound _ _ _ _ _ _ c.from_residual.ensures.1 (g.met.N.Records.untold _) c.in_err-document.ensures.fault
 
 pub returns-in_default-clause-valid : goal.returns-in_default-clause-valid
 returns-in_default-clause-valid g c =
@@ -27,4 +27,5 @@ pub returns-clause-sound : goal.returns-clause-sound
 returns-clause-sound g c = all_sound _ _ _ _ _ c.args.count _ c.in_ok-document.ensures.same (c.new-2.ensures.items, c.new-3.ensures, refl, refl) c.search.ensures.goes
 
 pub returns-clause-fault : goal.returns-clause-fault
-returns-clause-fault g c = fault_then _ _ _ _ _ _ _ c.in_ok-document.ensures.same c.in_ok-document.ensures.never_falls c.search.ensures.fault
+returns-clause-fault g c =
+    rest-later _ (λ x. IsBroken x c.args.count) _ _ _ _ _ _ _ (g.met.N.Records.keeps_damages _ _ c.in_ok-document.ensures.keeps) c.in_ok-document.ensures.same c.in_ok-document.ensures.never_falls c.search.ensures.fault

@@ -1,7 +1,6 @@
 use Rattle.std.proofs.Common.{arith, rules, subst, []}
 use Rattle.sx_axes.specs.Broken.{IsReady}
-use Rattle.sx_axes.proofs.Faults.{fault_after}
-use Rattle.sx_axes.proofs.Passing.{ends-on, more-on, more_damaged, passes-none, passes-on}
+use Rattle.sx_axes.proofs.Passing.{ends-on, fault_after, more-on, more_damaged, passes-none, passes-on}
 use Rattle.sx_axes.proofs.course.Course.follow.Goals as goal
 
 pub loop-number-init : goal.loop-number-init
@@ -39,7 +38,8 @@ returns-in_err-number-clause-beyond g c =
 
 pub returns-in_err-number-clause-fault : goal.returns-in_err-number-clause-fault
 returns-in_err-number-clause-fault g c =
-    fault_after _ _ _ _ _ _ _ _ _ c.from_residual.ensures.1 c.loop-number.invariant.same c.loop-number.invariant.count c.loop-number.invariant.never_falls c.in_err-number.ensures.fault
+    fault_after _ _ _ _ _ _ _ _ _ _ _ c.from_residual.ensures.1 (g.met.N.Records.keeps_damages _ _ c.loop-number.invariant.keeps) c.loop-number.invariant.same
+    c.loop-number.invariant.count c.loop-number.invariant.never_falls c.in_err-number.ensures.fault
 
 pub returns-in-Comes-clause-follows : goal.returns-in-Comes-clause-follows
 returns-in-Comes-clause-follows g c =

@@ -2,4 +2,4 @@ use Rattle.sx_cursor.proofs.Leading.{move_sound}
 use Rattle.sx_cursor.proofs.cursor.Cursor.to_right.Goals as goal
 
 pub returns-clause-sound : goal.returns-clause-sound
-returns-clause-sound g c = move_sound _ (λ w. w.right) _ _ _ (λ local number leads. leads.right) c.follow.ensures.fault
+returns-clause-sound g c = move_sound _ (λ w. w.right) _ _ _ _ (λ local number leads. leads.right) (g.met.N.Records.untold _) c.follow.ensures.fault

@@ -33,7 +33,7 @@ pub returns-in_err-path-clause-sound : goal.returns-in_err-path-clause-sound
 returns-in_err-path-clause-sound g c =
     let first : 1 ≤ c.loop-before.before + 1 = omega arith in
     let within : c.loop-before.before + 1 ≤ c.args.count = omega arith in
-    sound-after _ _ _ _ _ _ _ c.from_residual.ensures.1 c.loop-before.invariant.same first within c.in_err-path.ensures.fault
+    sound-after _ _ _ _ _ _ _ _ c.from_residual.ensures.1 c.loop-before.invariant.same (g.met.P.Records.untold _) first within c.in_err-path.ensures.fault
 
 pub returns-clause-of_state : goal.returns-clause-of_state
 returns-clause-of_state g c =

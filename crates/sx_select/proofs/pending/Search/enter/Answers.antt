@@ -9,7 +9,7 @@ pub returns-then-self-eq0-clause-finds : goal.returns-then-self-eq0-clause-finds
 returns-then-self-eq0-clause-finds g c = λ _. finds-out _ _ _ _ _ c.requires.next c.if-self-eq0.true
 
 pub returns-in_err-node-clause-finds : goal.returns-in_err-node-clause-finds
-returns-in_err-node-clause-finds g c = absent_finds _ _ _ _ _ _ _ _ _ _ c.requires.next c.from_residual.ensures.1 c.in_err-node.ensures.fault
+returns-in_err-node-clause-finds g c = absent_finds _ _ _ _ _ _ _ _ _ _ _ c.requires.next c.from_residual.ensures.1 (g.met.N.Records.untold _) c.in_err-node.ensures.fault
 
 pub returns-then-matches-clause-finds : goal.returns-then-matches-clause-finds
 returns-then-matches-clause-finds g c = λ _.

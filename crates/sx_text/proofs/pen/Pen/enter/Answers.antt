@@ -10,10 +10,10 @@ pub returns-then-self-eq0-clause-writes : goal.returns-then-self-eq0-clause-writ
 returns-then-self-eq0-clause-writes g c = λ _. writes-out _ _ _ _ c.requires.next c.if-self-eq0.true
 
 pub returns-in_err-node-clause-writes : goal.returns-in_err-node-clause-writes
-returns-in_err-node-clause-writes g c = absent_writes _ _ _ _ _ _ _ _ _ c.requires.next c.from_residual.ensures.1 c.in_err-node.ensures.fault
+returns-in_err-node-clause-writes g c = absent_writes _ _ _ _ _ _ _ _ _ _ c.requires.next c.from_residual.ensures.1 (g.met.N.Records.untold _) c.in_err-node.ensures.fault
 
 pub returns-in_err-node-clause-fault : goal.returns-in_err-node-clause-fault
-returns-in_err-node-clause-fault g c = broken_link_fault _ _ _ _ _ _ _ (c.requires.read.linked _ c.requires.next) c.from_residual.ensures.1 c.in_err-node.ensures.fault
+returns-in_err-node-clause-fault g c = broken_link_fault _ _ _ _ _ _ _ _ (c.requires.read.linked _ c.requires.next) c.from_residual.ensures.1 c.in_err-node.ensures.fault
 
 pub returns-then-not-may_stand-clause-writes : goal.returns-then-not-may_stand-clause-writes
 returns-then-not-may_stand-clause-writes g c = λ _. writes-misplaced _ _ _ (row_of c.in_ok-node.node) _ _ c.requires.next c.in_ok-node.ensures.found (sym c.may_stand.ensures ∙ c.if-not-may_stand.true)

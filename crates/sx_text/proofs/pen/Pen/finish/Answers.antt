@@ -1,5 +1,8 @@
-use Rattle.sx_text.proofs.Failing.{err_after}
+use Rattle.sx_view.proofs.Failing.{err-later}
+use Rattle.sx_text.specs.Text.{IsBroken}
 use Rattle.sx_text.proofs.pen.Pen.finish.Goals as goal
 
 pub returns-in_err-advance-clause-fault : goal.returns-in_err-advance-clause-fault
-returns-in_err-advance-clause-fault g c = err_after _ _ _ _ _ _ _ _ c.from_residual.ensures.1 c.loop-pen.invariant.same c.loop-pen.invariant.never_falls c.in_err-advance.ensures.fault
+returns-in_err-advance-clause-fault g c =
+    err-later _ (λ x. IsBroken x c.args.count) _ _ _ _ _ _ _ _ c.from_residual.ensures.1 (g.met.N.Records.keeps_damages _ _ c.loop-pen.invariant.keeps)
+    c.loop-pen.invariant.same c.loop-pen.invariant.never_falls c.in_err-advance.ensures.fault

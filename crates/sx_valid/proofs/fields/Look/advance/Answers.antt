@@ -4,7 +4,8 @@ use Rattle.sx_view.specs.Rows.{row_of}
 use Rattle.sx_cursor.specs.Told.{Tells}
 use Rattle.sx_model.specs.Valid.{has_begun, has_not_ended}
 use Rattle.sx_valid.specs.Fields.{LacksValue, value_seen}
-use Rattle.sx_valid.proofs.Failing.{err_after}
+use Rattle.sx_view.proofs.Failing.{err-later}
+use Rattle.sx_valid.specs.Valid.{IsBroken}
 use Rattle.sx_valid.proofs.Looking.{look_fails-err, looked_through, passed, settled, value_fails-err}
 use Rattle.sx_valid.proofs.fields.Look.advance.Goals as goal
 
@@ -24,7 +25,9 @@ returns-in_err-value-clause-looks g c = value_fails-err _ _ _ _ _ c.in-Some.numb
     (λ damaged. subst (λ x. (c.args.self.now.left - 1 ≡ 0) ⊎ LacksValue x c.in_ok-key.key.first) c.look_at.ensures.same (c.in_err-value.ensures.none damaged))
 
 pub returns-in_err-value-clause-fault : goal.returns-in_err-value-clause-fault
-returns-in_err-value-clause-fault g c = err_after _ _ _ _ _ _ _ _ c.from_residual-in_err-value.ensures.1 c.look_at.ensures.same c.look_at.ensures.never_falls c.in_err-value.ensures.fault
+returns-in_err-value-clause-fault g c =
+    err-later _ (λ x. IsBroken x c.args.count) _ _ _ _ _ _ _ _ c.from_residual-in_err-value.ensures.1 (g.met.N.Records.keeps_damages _ _ c.look_at.ensures.keeps)
+    c.look_at.ensures.same c.look_at.ensures.never_falls c.in_err-value.ensures.fault
 
 pub returns-clause-looks : goal.returns-clause-looks
 returns-clause-looks g c =
