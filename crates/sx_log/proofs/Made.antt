@@ -7,11 +7,12 @@ use Rattle.std.proofs.lemmas.List.{length-set, take_all}
 use Rattle.sx_layout.proofs.BornReadings.{not_both}
 use Rattle.sx_layout.specs.Birth.{Birth, IsBirth, IsBorn, IsNotOurs, IsUnborn, birth_part}
 use Rattle.sx_layout.specs.Born.{StandsForNone}
-use Rattle.sx_log.specs.Creating.{HasPart, IsEmptySince, IsMade, IsShut, StayShut, Tells}
-use Rattle.sx_log.specs.Creating.{IsOther}
+use Rattle.sx_log.specs.Calls.{HoldsSinceSync, IsSettled, IsSynced, IsUnsynced, OnlyReads}
+use Rattle.sx_log.specs.Creating.{HasPart, IsEmptySince, IsMade, IsOther, IsRefusal, IsShut, IsTaken, StayShut, Tells}
 use Rattle.sx_log.specs.declared.fault.LogFault.{LogFault}
 use Rattle.sx_log.specs.declared.fault.LogFault.TheVariants.{Born, NotOurs}
 use Rattle.sx_volume.specs.Images.{Only, IsWithin, Follows, Appends, Cuts, Puts, Elapses, Syncs}
+use Rattle.sx_volume.specs.declared.volume.Volume.{Ghosts}
 
 -- ---- one call
 
@@ -218,20 +219,83 @@ then_unborn (Some all) now start mid end was is had has same le first second tim
     then_images StandsForNone (Some all) now start mid end was is had has (same_told (Some all) now same) le (first unborn) second time
 
 -- the first sync, and what comes behind it
-pub empty_since : (bytes now : Option (List ℕ)) (start mid end : ℕ) (before : List ℕ → Type 0) (was is : ℕ → List ℕ → Type 0) (had has is_synced : ℕ → Type 0) → now ≡ bytes
-    → IfSome bytes (λ _. Syncs start mid had has) → IsWithin before (was start) → Elapses mid end was is has is_synced → IfSome now (λ image. IsUnborn image → (c : List ℕ) → is mid c → StandsForNone c)
-    → IfSome bytes (λ image. IsUnborn image → IsEmptySince start end before is is_synced)
-empty_since None now start mid end before was is had has is_synced same synced within time left = tt
-empty_since (Some image) now start mid end before was is had has is_synced same synced within time left = λ unborn.
-    let since : IsUnborn image → (c : List ℕ) → is mid c → StandsForNone c = subst (λ (b : Option (List ℕ)). IfSome b (λ all. IsUnborn all → (c : List ℕ) → is mid c → StandsForNone c)) same left in
-    record {
-      moment = mid;
-      later = synced.later;
-      no_later = time.later;
-      synced = time.syncs mid synced.here;
-      up_to = λ c was_left. ⊎_elim (λ (earlier : was start c). inl (within c earlier)) (λ (during : is mid c). inr during) (time.nothing_else start c (omega (arith, synced.later)) was_left);
-      since = since unborn;
-    }
+module _ {V Spot End : Type 0} (g : Ghosts V Spot End) (old mid new : V) where
+  since_sync : (P : List ℕ → Type 0) → Syncs (g.moment old) (g.moment mid) (g.synced old) (g.synced mid) → IsWithin (g.is_image old) (g.was_image mid (g.moment old))
+      → Elapses (g.moment mid) (g.moment new) (g.was_image mid) (g.was_image new) (g.synced mid) (g.synced new)
+      → ((c : List ℕ) → g.was_image new (g.moment mid) c → P c) → HoldsSinceSync g P old new
+  since_sync P synced within time since = record {
+    moment = g.moment mid;
+    later = synced.later;
+    no_later = time.later;
+    here = time.syncs (g.moment mid) synced.here;
+    first = λ t before here. ⊎_elim (λ (had : g.synced old t). had) (λ (is : t ≡ g.moment mid). absurd (omega (arith, is, before)))
+        (synced.no_other t (time.no_sync_before t (omega (arith, before)) here));
+    up_to = λ c was. ⊎_elim (λ (earlier : g.was_image mid (g.moment old) c). inl (within c earlier)) (λ (during : g.was_image new (g.moment mid) c). inr during)
+        (time.nothing_else (g.moment old) c (omega (arith, synced.later)) was);
+    since = since;
+  }
+
+  pub empty_since : g.bytes mid ≡ g.bytes old → IfSome (g.bytes old) (λ _. Syncs (g.moment old) (g.moment mid) (g.synced old) (g.synced mid))
+      → IsWithin (g.is_image old) (g.was_image mid (g.moment old)) → Elapses (g.moment mid) (g.moment new) (g.was_image mid) (g.was_image new) (g.synced mid) (g.synced new)
+      → IfSome (g.bytes mid) (λ image. IsUnborn image → (c : List ℕ) → g.was_image new (g.moment mid) c → StandsForNone c)
+      → IfSome (g.bytes old) (λ image. IsUnborn image → IsEmptySince g old new)
+  empty_since same synced within time left =
+      with_both (g.bytes old) synced (subst (λ (b : Option (List ℕ)). IfSome b (λ image. IsUnborn image → (c : List ℕ) → g.was_image new (g.moment mid) c → StandsForNone c)) same left)
+    where
+      with_both : (o : Option (List ℕ)) → IfSome o (λ _. Syncs (g.moment old) (g.moment mid) (g.synced old) (g.synced mid))
+          → IfSome o (λ image. IsUnborn image → (c : List ℕ) → g.was_image new (g.moment mid) c → StandsForNone c) → IfSome o (λ image. IsUnborn image → IsEmptySince g old new)
+      with_both None synced left = tt
+      with_both (Some image) synced left = λ unborn. since_sync StandsForNone synced within time (left unborn)
+
+  -- calls behind it that only read
+  pub reads_since : g.bytes mid ≡ g.bytes old → IfSome (g.bytes old) (λ _. Syncs (g.moment old) (g.moment mid) (g.synced old) (g.synced mid))
+      → IsWithin (g.is_image old) (g.was_image mid (g.moment old)) → IsSettled g mid → OnlyReads g mid new → IfSome (g.bytes old) (λ image. IsSynced g image old new)
+  reads_since same synced within settled only = with_both (g.bytes old) synced (subst (λ (b : Option (List ℕ)). IfSome b (λ image. Only image (g.is_image mid))) same settled)
+    where
+      with_both : (o : Option (List ℕ)) → IfSome o (λ _. Syncs (g.moment old) (g.moment mid) (g.synced old) (g.synced mid)) → IfSome o (λ image. Only image (g.is_image mid))
+          → IfSome o (λ image. IsSynced g image old new)
+      with_both None synced settled = tt
+      with_both (Some image) synced settled = since_sync (λ c. c ≡ image) synced within only.time (λ c was. settled c (only.no_image_more c was))
+
+  -- over bytes that are not unborn these are the calls behind it
+  pub taken_bytes : (X : Type 0) → g.bytes mid ≡ g.bytes old → IfSome (g.bytes mid) (λ image. IsTaken image → OnlyReads g mid new) → IfSome (g.bytes old) (λ image. IsTaken image → X → g.bytes new ≡ g.bytes old)
+  taken_bytes X same taken = by (g.bytes old) (subst (λ (b : Option (List ℕ)). IfSome b (λ image. IsTaken image → OnlyReads g mid new)) same taken)
+    where
+      by : (o : Option (List ℕ)) → IfSome o (λ image. IsTaken image → OnlyReads g mid new) → IfSome o (λ image. IsTaken image → X → g.bytes new ≡ g.bytes old)
+      by None only = tt
+      by (Some image) only = λ is other. (only is).same_bytes ∙ same
+
+  pub taken_images : g.bytes mid ≡ g.bytes old → IfSome (g.bytes old) (λ _. Syncs (g.moment old) (g.moment mid) (g.synced old) (g.synced mid))
+      → IsWithin (g.is_image old) (g.was_image mid (g.moment old)) → IsSettled g mid → IfSome (g.bytes mid) (λ image. IsTaken image → OnlyReads g mid new)
+      → IfSome (g.bytes old) (λ image. IsTaken image → IsSynced g image old new ⊎ IsUnsynced g old new)
+  taken_images same synced within settled taken =
+      by (g.bytes old) synced (subst (λ (b : Option (List ℕ)). IfSome b (λ image. Only image (g.is_image mid))) same settled)
+      (subst (λ (b : Option (List ℕ)). IfSome b (λ image. IsTaken image → OnlyReads g mid new)) same taken)
+    where
+      by : (o : Option (List ℕ)) → IfSome o (λ _. Syncs (g.moment old) (g.moment mid) (g.synced old) (g.synced mid)) → IfSome o (λ image. Only image (g.is_image mid))
+          → IfSome o (λ image. IsTaken image → OnlyReads g mid new) → IfSome o (λ image. IsTaken image → IsSynced g image old new ⊎ IsUnsynced g old new)
+      by None synced settled only = tt
+      by (Some image) synced settled only = λ is. inl (since_sync (λ c. c ≡ image) synced within (only is).time (λ c was. settled c ((only is).no_image_more c was)))
+
+  pub refused_since : (result : Result (Unit {0}) LogFault) → g.bytes mid ≡ g.bytes old → IfSome (g.bytes old) (λ _. Syncs (g.moment old) (g.moment mid) (g.synced old) (g.synced mid))
+      → IsWithin (g.is_image old) (g.was_image mid (g.moment old)) → IsSettled g mid → IfErr result (λ fault. IsRefusal fault → OnlyReads g mid new)
+      → IfErr result (λ fault. IsRefusal fault → IfSome (g.bytes old) (λ image. IsSynced g image old new))
+  refused_since (Ok done) same synced within settled only = tt
+  refused_since (Err fault) same synced within settled only = λ is. reads_since same synced within settled (only is)
+
+-- no sync came
+pub taken_unsynced : (bytes : Option (List ℕ)) (P : List ℕ → Type 0) (Q : Type 0) → Q → IfSome bytes (λ image. IsTaken image → P image ⊎ Q)
+taken_unsynced None P Q holds = tt
+taken_unsynced (Some image) P Q holds = λ is. inr holds
+
+-- the bytes are those of an unborn volume, or something holds over all others
+pub never_taken : (bytes : Option (List ℕ)) (Q : Type 0) → IfSome bytes IsUnborn → IfSome bytes (λ image. IsTaken image → Q)
+never_taken None Q unborn = tt
+never_taken (Some image) Q unborn = λ is. absurd (is unborn)
+
+pub though_taken : (bytes : Option (List ℕ)) (Q : Type 0) → Q → IfSome bytes (λ image. IsTaken image → Q)
+though_taken None Q holds = tt
+though_taken (Some image) Q holds = λ is. holds
 
 pub or_not : (bytes : Option (List ℕ)) (P : List ℕ → Type 0) (Q : Type 0) → IfSome bytes (λ image. IsUnborn image → P image) → IfSome bytes (λ image. IsUnborn image → P image ⊎ Q)
 or_not None P Q holds = tt

@@ -1,12 +1,13 @@
 -- What making a volume leaves.
-use Rattle.std.specs.Prelude.{ℕ, ◌≡◌, ◌≢◌, ◌<◌, ◌≤◌, ◌⊎◌, List, [], ◌∷◌, ◌++◌, length, Option, Some, IfSome, Result, Ok, Err, slice_get}
+use Rattle.std.specs.Prelude.{ℕ, ◌≡◌, ◌≢◌, ◌≤◌, ◌⊎◌, List, [], ◌∷◌, ◌++◌, length, Option, Some, IfSome, Result, Ok, Err, slice_get}
 use Rattle.sx_layout.specs.Birth as layout
 use Rattle.sx_layout.specs.Birth.{IsBirth, IsBorn, IsNotOurs, IsUnborn, birth_part}
 use Rattle.sx_layout.specs.Born.{StandsForNone}
+use Rattle.sx_log.specs.Calls.{HoldsSinceSync}
 use Rattle.sx_log.specs.declared.birth.Birth.{Birth}
 use Rattle.sx_log.specs.declared.fault.LogFault.{LogFault}
 use Rattle.sx_log.specs.declared.fault.LogFault.TheVariants.{Failed, NotOurs, Born, OutOfMemory}
-use Rattle.sx_volume.specs.Images.{NoSync}
+use Rattle.sx_volume.specs.declared.volume.Volume.{Ghosts}
 
 -- the birth that is meant
 abbrev pub birth_of : Birth → layout.Birth
@@ -39,20 +40,13 @@ pub record IsMade (image : List ℕ) (result : Result (Unit {0}) LogFault) : Typ
   pub born : IsBorn image → (fault : LogFault) × (result ≡ Err fault) × ((fault ≡ Born) ⊎ IsOther fault)
   pub not_ours : (first : ℕ) → IsNotOurs image first → (fault : LogFault) × (result ≡ Err fault) × ((fault ≡ NotOurs first) ⊎ IsOther fault)
 
--- A crash leaves what it could leave at the start, up to the moment at which the first sync succeeded. From then on each image
--- stands for no commits.
-pub record IsEmptySince (start end : ℕ) (before : List ℕ → Type 0) (was : ℕ → List ℕ → Type 0) (has : ℕ → Type 0) : Type 0 where
-  pub moment : ℕ
-  pub later : start < moment
-  pub no_later : moment ≤ end
-  pub synced : has moment
-  pub up_to : (c : List ℕ) → was start c → before c ⊎ was moment c
-  pub since : (c : List ℕ) → was moment c → StandsForNone c
+-- From the first sync that succeeded on each image stands for no commits.
+abbrev pub IsEmptySince : {V Spot End : Type 0} → Ghosts V Spot End → V → V → Type 0
+IsEmptySince g old new = HoldsSinceSync g StandsForNone old new
 
--- No sync succeeded, and a crash leaves what it could leave at the start.
-pub record IsUnsynced (start : ℕ) (before : List ℕ → Type 0) (was : ℕ → List ℕ → Type 0) (had has : ℕ → Type 0) : Type 0 where
-  pub no_sync : NoSync had has
-  pub up_to : (c : List ℕ) → was start c → before c
+-- the image is that of a volume which was born, or of none of this program
+abbrev pub IsTaken : List ℕ → Type 0
+IsTaken image = IsUnborn image → ⊥
 
 -- the birth gate is closed
 abbrev pub IsShut : Option (List ℕ) → Type 0

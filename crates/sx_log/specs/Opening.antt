@@ -9,7 +9,7 @@ use Rattle.sx_layout.specs.Born.{HasLog, Reading, Reads}
 use Rattle.sx_layout.specs.FrameGroup.{FrameGroup, IsFrameGroup, behind_gates, first_root, frame_group_bytes, gate_behind, group_size}
 use Rattle.sx_layout.specs.Rule.{first_broken}
 use Rattle.sx_layout.specs.Rules.{Follow, KeepCounts, count_rules, digest_rule, group_violation, order_rules, table_rules}
-use Rattle.sx_log.specs.Creating.{IsOther, IsUnsynced, birth_of}
+use Rattle.sx_log.specs.Creating.{IsOther, birth_of}
 use Rattle.sx_log.specs.Kept.{IsLogOf, first_place, row_at, rows_from, rows_size}
 use Rattle.sx_log.specs.declared.fault.LogFault.{LogFault}
 use Rattle.sx_log.specs.declared.fault.LogFault.TheVariants.{Failed, NotOurs, Unborn, Born, Damaged, OutOfMemory}
@@ -18,8 +18,6 @@ use Rattle.sx_log.specs.declared.log.Log.{Log}
 use Rattle.sx_log.specs.declared.log.Pending.TheVariants.{Nothing}
 use Rattle.sx_root.specs.Root.{front_root}
 use Rattle.sx_root.specs.declared.root.RevisionRoot.{RevisionRoot}
-use Rattle.sx_volume.specs.Images.{Only}
-use Rattle.sx_volume.specs.declared.volume.Volume.{Ghosts}
 
 -- ---- what is answered
 
@@ -87,23 +85,6 @@ pub record IsReadUpTo (bytes : Option (List ℕ)) (size count : ℕ) : Type 0 wh
 -- Where opening ends without a log it has read so many bytes.
 abbrev pub IsCounted : Option (List ℕ) → ℕ → ℕ → Type 0
 IsCounted bytes size count = (count ≤ 174) ⊎ IsReadUpTo bytes size count
-
--- ---- crashes
-
--- A crash leaves what it could leave at the start, up to the moment at which the first sync succeeded. From then on it leaves these bytes
--- and nothing else.
-pub record IsSynced {V Spot End : Type 0} (g : Ghosts V Spot End) (image : List ℕ) (old new : V) : Type 0 where
-  pub moment : ℕ
-  pub later : g.moment old < moment
-  pub no_later : moment ≤ g.moment new
-  pub here : g.synced new moment
-  pub first : (t : ℕ) → t < moment → g.synced new t → g.synced old t
-  pub up_to : (c : List ℕ) → g.was_image new (g.moment old) c → g.is_image old c ⊎ g.was_image new moment c
-  pub since : Only image (g.was_image new moment)
-
--- That, or no sync succeeded, and a crash leaves what it could leave at the start.
-abbrev pub IsSyncedOrNot : {V Spot End : Type 0} → Ghosts V Spot End → V → V → Type 0
-IsSyncedOrNot g old new = IfSome (g.bytes old) (λ image. IsSynced g image old new ⊎ IsUnsynced (g.moment old) (g.is_image old) (g.was_image new) (g.synced old) (g.synced new))
 
 -- ---- what was read so far
 

@@ -4,8 +4,8 @@ ghost use Rattle.std.specs.Arc.{arc_value};
 ghost use Rattle.std.specs.Option.{option_map};
 ghost use Rattle.sx_layout.specs.Birth.{IsBirth, IsUnborn, birth_part, padded};
 ghost use Rattle.sx_layout.specs.Born.{HasLog, StandsForNone};
-ghost use Rattle.sx_log.specs.Calls.{GoesOn, IsSettled};
-ghost use Rattle.sx_log.specs.Creating.{CanBeBorn, HasPart, IsEmptySince, IsMade, IsOfCreate, IsOther, IsRefusal, IsShort, IsShut, IsUnsynced, StayShut, Tells, birth_of, newborn};
+ghost use Rattle.sx_log.specs.Calls.{GoesOn, IsSettled, IsSynced, IsUnsynced, OnlyReads};
+ghost use Rattle.sx_log.specs.Creating.{CanBeBorn, HasPart, IsEmptySince, IsMade, IsOfCreate, IsOther, IsRefusal, IsShort, IsShut, IsTaken, StayShut, Tells, birth_of, newborn};
 ghost use Rattle.sx_outside.specs.Faults.{Rose};
 ghost use Rattle.sx_volume.specs.Held.{IsHeldFor, held_piece};
 ghost use Rattle.sx_volume.specs.Images.{IsWithin, NoSync, Syncs};
@@ -33,11 +33,19 @@ pub fn create<V: Volume>(alloc: Global, volume: &mut V, birth: &Birth) -> Result
     ensures born { OnOk result (Tells (newborn (birth_of birth.now)) (V.bytes volume.old) (V.bytes volume.new)) }
     ensures log { OnOk result (HasLog (newborn (birth_of birth.now)) (birth_of birth.now) []) }
     ensures settled { OnOk result (IsSettled V.Volume volume.new) }
-    ensures refused { IfErr result (λ fault. IsRefusal fault → V.bytes volume.new ≡ V.bytes volume.old) }
     ensures empty { IfSome (V.bytes volume.old) (λ image. IsUnborn image
-        → IsEmptySince (V.moment volume.old) (V.moment volume.new) (V.is_image volume.old) (V.was_image volume.new) (V.synced volume.new)
-        ⊎ (IsErr result × IsUnsynced (V.moment volume.old) (V.is_image volume.old) (V.was_image volume.new) (V.synced volume.old) (V.synced volume.new))) }
+        → IsEmptySince V.Volume volume.old volume.new ⊎ (IsErr result × IsUnsynced V.Volume volume.old volume.new)) }
+
+    // A refusal leaves the bytes, and a crash leaves them from the sync on. So it is over each volume that is not unborn, whatever the
+    // answer is, unless a call failed.
+    ensures refused { IfErr result (λ fault. IsRefusal fault → V.bytes volume.new ≡ V.bytes volume.old) }
+    ensures refused_images { IfErr result (λ fault. IsRefusal fault → IfSome (V.bytes volume.old) (λ image. IsSynced V.Volume image volume.old volume.new)) }
+    ensures same_bytes { IfSome (V.bytes volume.old) (λ image. IsTaken image
+        → (IsErrOf result LogFault.Failed → ⊥) → V.bytes volume.new ≡ V.bytes volume.old) }
+    ensures same_images { IfSome (V.bytes volume.old) (λ image. IsTaken image
+        → IsSynced V.Volume image volume.old volume.new ⊎ IsUnsynced V.Volume volume.old volume.new) }
     ensures cause { IsErrOf result LogFault.Failed → Rose (V.faults volume.old) (V.faults volume.new) }
+    ensures no_fault { (IsErrOf result LogFault.Failed → ⊥) → V.faults volume.new ≡ V.faults volume.old }
     ensures on { GoesOn V.Volume volume.old volume.new }
 {
     let part = Arc::new(alloc, part_with_gate(alloc, birth)?)?;
@@ -54,9 +62,11 @@ fn make_unborn<V: Volume>(alloc: Global, volume: &mut V, part: Arc<Vec<u8>>) -> 
     ensures answers { IfErr result IsOfCreate }
     ensures made { OnOk result (Tells (OPEN ∷ (arc_value part).items) (V.bytes volume.old) (V.bytes volume.new)) }
     ensures settled { OnOk result (IsSettled V.Volume volume.new) }
-    ensures refused { IfErr result (λ fault. IsRefusal fault → V.bytes volume.new ≡ V.bytes volume.old) }
+    ensures refused { IfErr result (λ fault. IsRefusal fault → OnlyReads V.Volume volume.old volume.new) }
+    ensures taken { IfSome (V.bytes volume.old) (λ image. IsTaken image → OnlyReads V.Volume volume.old volume.new) }
     ensures images { IfSome (V.bytes volume.old) (λ image. IsUnborn image → (c : List ℕ) → V.was_image volume.new (V.moment volume.old) c → StandsForNone c) }
     ensures cause { IsErrOf result LogFault.Failed → Rose (V.faults volume.old) (V.faults volume.new) }
+    ensures no_fault { (IsErrOf result LogFault.Failed → ⊥) → V.faults volume.new ≡ V.faults volume.old }
     ensures on { GoesOn V.Volume volume.old volume.new }
 {
     match find_birth(volume)? {
@@ -79,6 +89,7 @@ fn close_birth_gate<V: Volume>(alloc: Global, volume: &mut V) -> Result<(), LogF
     ensures fault { IfErr result IsOther }
     ensures images { IfSome (V.bytes volume.old) (λ _. (c : List ℕ) → V.was_image volume.new (V.moment volume.old) c → StandsForNone c) }
     ensures cause { IsErrOf result LogFault.Failed → Rose (V.faults volume.old) (V.faults volume.new) }
+    ensures no_fault { (IsErrOf result LogFault.Failed → ⊥) → V.faults volume.new ≡ V.faults volume.old }
     ensures on { GoesOn V.Volume volume.old volume.new }
 {
     shut_birth_gate(alloc, volume)?;
@@ -98,6 +109,7 @@ fn shut_birth_gate<V: Volume>(alloc: Global, volume: &mut V) -> Result<(), LogFa
     ensures fault { IfErr result IsOther }
     ensures images { IfSome (V.bytes volume.old) (λ _. (c : List ℕ) → V.was_image volume.new (V.moment volume.old) c → StandsForNone c) }
     ensures cause { IsErrOf result LogFault.Failed → Rose (V.faults volume.old) (V.faults volume.new) }
+    ensures no_fault { (IsErrOf result LogFault.Failed → ⊥) → V.faults volume.new ≡ V.faults volume.old }
     ensures on { GoesOn V.Volume volume.old volume.new }
 {
     if volume.len() == 0 {
@@ -126,6 +138,7 @@ fn write_part<V: Volume>(alloc: Global, volume: &mut V, part: Arc<Vec<u8>>) -> R
     ensures fault { IfErr result IsOther }
     ensures images { StayShut (V.bytes volume.old) (V.was_image volume.new (V.moment volume.old)) }
     ensures cause { IsErrOf result LogFault.Failed → Rose (V.faults volume.old) (V.faults volume.new) }
+    ensures no_fault { (IsErrOf result LogFault.Failed → ⊥) → V.faults volume.new ≡ V.faults volume.old }
     ensures on { GoesOn V.Volume volume.old volume.new }
 {
     cut_to_gate(volume)?;
@@ -145,6 +158,7 @@ fn cut_to_gate<V: Volume>(volume: &mut V) -> Result<(), Failed>
     ensures spare { V.spare volume.old ≤ V.spare volume.new + 1 }
     ensures images { StayShut (V.bytes volume.old) (V.was_image volume.new (V.moment volume.old)) }
     ensures cause { OnErr result (Rose (V.faults volume.old) (V.faults volume.new)) }
+    ensures no_fault { OnOk result (V.faults volume.new ≡ V.faults volume.old) }
     ensures on { GoesOn V.Volume volume.old volume.new }
 {
     if volume.len() <= 1 {
@@ -165,6 +179,7 @@ fn append_part<V: Volume>(alloc: Global, volume: &mut V, part: Arc<Vec<u8>>) -> 
     ensures fault { IfErr result IsOther }
     ensures images { StayShut (V.bytes volume.old) (V.was_image volume.new (V.moment volume.old)) }
     ensures cause { IsErrOf result LogFault.Failed → Rose (V.faults volume.old) (V.faults volume.new) }
+    ensures no_fault { (IsErrOf result LogFault.Failed → ⊥) → V.faults volume.new ≡ V.faults volume.old }
     ensures on { GoesOn V.Volume volume.old volume.new }
 {
     volume.hold(alloc, 1, part)?;
@@ -182,6 +197,7 @@ fn open_birth_gate<V: Volume>(volume: &mut V) -> Result<(), Failed>
     ensures settled { OnOk result (IsSettled V.Volume volume.new) }
     ensures images { IfSome (V.bytes volume.old) (λ _. (c : List ℕ) → V.was_image volume.new (V.moment volume.old) c → StandsForNone c) }
     ensures cause { OnErr result (Rose (V.faults volume.old) (V.faults volume.new)) }
+    ensures no_fault { OnOk result (V.faults volume.new ≡ V.faults volume.old) }
     ensures on { GoesOn V.Volume volume.old volume.new }
 {
     volume.put_byte(0, OPEN)?;
@@ -199,6 +215,7 @@ fn make<V: Volume>(alloc: Global, volume: &mut V, part: Arc<Vec<u8>>) -> Result<
     ensures fault { IfErr result IsOther }
     ensures images { IfSome (V.bytes volume.old) (λ _. (c : List ℕ) → V.was_image volume.new (V.moment volume.old) c → StandsForNone c) }
     ensures cause { IsErrOf result LogFault.Failed → Rose (V.faults volume.old) (V.faults volume.new) }
+    ensures no_fault { (IsErrOf result LogFault.Failed → ⊥) → V.faults volume.new ≡ V.faults volume.old }
     ensures on { GoesOn V.Volume volume.old volume.new }
 {
     close_birth_gate(alloc, volume)?;

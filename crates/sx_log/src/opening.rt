@@ -8,11 +8,11 @@ ghost use Rattle.sx_layout.specs.Born.{Reading, Reads};
 ghost use Rattle.sx_layout.specs.FrameGroup.{AreRows, IsRow, first_root, row_bytes, table_bytes};
 ghost use Rattle.sx_layout.specs.Rule.{first_broken};
 ghost use Rattle.sx_layout.specs.Rules.{size_rules};
-ghost use Rattle.sx_log.specs.Calls.{GoesOn, IsSettled, OnlyReads};
+ghost use Rattle.sx_log.specs.Calls.{GoesOn, IsSettled, IsSynced, IsSyncedOrNot, OnlyReads};
 ghost use Rattle.sx_log.specs.Creating.{IsOther, birth_of};
 ghost use Rattle.sx_log.specs.Finding.{fields_in};
 ghost use Rattle.sx_log.specs.Kept.{listed, opened_size, root_behind, rows_size};
-ghost use Rattle.sx_log.specs.Opening.{Begins, Explains, IsCounted, IsGiven, IsGroupAt, IsOpened, IsPartAt, IsSynced, IsSyncedOrNot, TellsFault};
+ghost use Rattle.sx_log.specs.Opening.{Begins, Explains, IsCounted, IsGiven, IsGroupAt, IsOpened, IsPartAt, TellsFault};
 ghost use Rattle.sx_outside.specs.Faults.{Rose};
 ghost use Rattle.sx_root.specs.Root.{IsRoot, mark, root_bytes};
 

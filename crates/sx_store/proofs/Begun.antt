@@ -9,12 +9,12 @@ use Rattle.sx_layout.specs.Birth.{Birth, birth_part}
 use Rattle.sx_layout.specs.Born as born
 use Rattle.sx_layout.specs.Born.{HasLog, Reading, Reads}
 use Rattle.sx_layout.specs.FrameGroup.{FrameGroup, behind_gates, first_root}
-use Rattle.sx_log.specs.Calls.{IsSettled}
+use Rattle.sx_log.specs.Calls.{IsSettled, IsSynced}
 use Rattle.sx_log.specs.Committing.{OnlyHolds}
 use Rattle.sx_log.specs.Creating.{birth_of}
 use Rattle.sx_log.specs.Kept.{first_place, listed}
 use Rattle.sx_log.specs.Opening as log
-use Rattle.sx_log.specs.Opening.{IsOpened, IsSynced}
+use Rattle.sx_log.specs.Opening.{IsOpened}
 use Rattle.sx_log.specs.declared.fault.LogFault.{LogFault}
 use Rattle.sx_log.specs.declared.log.GroupRow.{GroupRow}
 use Rattle.sx_log.specs.declared.log.Log.{Log}

@@ -1,6 +1,7 @@
 -- What opening leaves of a volume.
-pub use Rattle.sx_log.specs.Creating.{IsOther, IsUnsynced}
-pub use Rattle.sx_log.specs.Opening.{Explains, IsSynced, IsSyncedOrNot}
+pub use Rattle.sx_log.specs.Calls.{IsSynced, IsSyncedOrNot, IsUnsynced}
+pub use Rattle.sx_log.specs.Creating.{IsOther}
+pub use Rattle.sx_log.specs.Opening.{Explains}
 use Rattle.std.specs.Prelude.{◌≡◌, ◌⊎◌, Result, Ok, Err}
 use Rattle.sx_layout.specs.Born as born
 use Rattle.sx_layout.specs.Born.{Reading}
