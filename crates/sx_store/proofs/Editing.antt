@@ -23,7 +23,7 @@ use Rattle.sx_store.specs.Drafts.{AnswersDraft, IsReached}
 use Rattle.sx_store.specs.Edits.{Edits, with_edit}
 use Rattle.sx_store.specs.Faults.{fault_of_edit, writer_fault}
 use Rattle.sx_store.specs.Shows.{HasDraft, IsDraftOf, Shows, last_root_of, next_in, records_of}
-use Rattle.sx_store.specs.Sound.{IsSameDraft, SameBut}
+use Rattle.sx_store.specs.Sound.{IsSameDocument, SameBut}
 use Rattle.sx_reader.specs.Cells.{TellFrames, frames_of}
 use Rattle.sx_reader.specs.declared.cell.Cell.{Cell}
 use Rattle.sx_store.specs.declared.draft.Draft.{Draft}
@@ -101,7 +101,7 @@ shows-with g old new book open_edits same shows accepted draft = record {
   stopped = same.stage ∙ shows.stopped;
 }
 
-pub same-draft : (book : Book) (old new : Draft) → IsSameDraft (Some old) (Some new) → IsDraftOf book old → IsDraftOf book new
+pub same-draft : (book : Book) (old new : Draft) → IsSameDocument old new → IsDraftOf book old → IsDraftOf book new
 same-draft book old new (records, paths, next) is = record {
   records = subst (λ (n : ℕ). AreOf (current book) n (Some (records_of new))) (sym next) (subst (λ m. AreOf (current book) old.next (Some m)) (sym records) is.records);
   table = subst (IsTableOf (current book)) (sym paths) is.table;

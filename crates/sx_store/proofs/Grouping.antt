@@ -1,6 +1,6 @@
 -- The group of the open edits, or why there is none.
 use Rattle.std.proofs.Common.{◌≡◌, ◌∙◌, inl, inr, ℕ, ℤ, ◌+◌, ◌-◌, List, [], ◌∷◌, ◌++◌, length, refl, ap, sym, subst, arith, length-append, Option, Some, None, Result, Ok, Err}
-use Rattle.std.specs.Prelude.{IfErr, IfOk, IsErrAnd, IsErrOf, OnOk}
+use Rattle.std.specs.Prelude.{IfErr, IfOk, IsErrAnd, IsErrOf, OnErr, OnOk}
 use Rattle.sx_bytes.specs.declared.damage.Damage.{Damage}
 use Rattle.sx_layout.specs.FrameGroup.{FrameGroup, frames_after}
 use Rattle.sx_log.specs.Committing.{sealed_bytes}
@@ -9,12 +9,12 @@ use Rattle.sx_model.specs.Commit.{Commit}
 use Rattle.sx_model.specs.State.{State, empty_document}
 use Rattle.sx_run.specs.Run.{Book, current, next_commit}
 use Rattle.sx_store.specs.Commits.{Commits, IsNoFailure}
-use Rattle.sx_store.specs.Damage.{IsCommitDamage, IsMade, IsTakenDamage, place_behind}
+use Rattle.sx_store.specs.Damage.{IsCommitDamage, IsMade, IsTable, IsTakenDamage, place_behind}
 use Rattle.sx_store.specs.Faults.{commit_fault}
 use Rattle.sx_store.specs.Groups.{HasRoom, HasTooMany, IsGroupFault}
 use Rattle.sx_store.specs.Room.{room, said_of}
 use Rattle.sx_store.specs.Shows.{Shows, last_root_of, next_in, records_of}
-use Rattle.sx_store.specs.Sound.{IsSameDraft, SameDraft}
+use Rattle.sx_store.specs.Sound.{IsSameDocument, IsSameDraft, SameDraft}
 use Rattle.sx_store.specs.declared.draft.Draft.{Draft}
 use Rattle.sx_store.specs.declared.fault.CommitFault.{CommitFault}
 use Rattle.sx_store.specs.declared.fault.CommitFault.TheVariants as faults
@@ -142,16 +142,20 @@ ungrouped-damage g tells before ledger draft r damage is told made next =
 
 -- ---- the draft
 
-pub same-open : {S : Type 0} (g : Ghosts S) (tells : Type 0) (ledger : Ledger S) (before : Option Draft) (draft now : Draft) → IsMade g tells ledger before draft → IsSameDraft (Some draft) (Some now) → IsSameDraft before (Some now)
-same-open g tells ledger None draft now made same = tt
-same-open g tells ledger (Some before) draft now made same = subst (λ (d : Draft). IsSameDraft (Some d) (Some now)) made same
+pub same-open : {S : Type 0} (g : Ghosts S) (tells : Type 0) (ledger : Ledger S) (before : Option Draft) (draft now : Draft) → IsMade g tells ledger before draft → IsSameDocument draft now → IsSameDraft g tells ledger before (Some now)
+same-open g tells ledger None draft now (kept, keeps, loaded) same = (kept, keeps, (same.0 ∙ loaded.0, subst (IsTable kept.paths (last_root_of ledger).paths) (sym same.1) loaded.1))
+same-open g tells ledger (Some before) draft now made same = subst (λ (d : Draft). IsSameDocument d now) made same
 
-same-itself : (draft : Option Draft) → IsSameDraft draft draft
-same-itself None = tt
-same-itself (Some draft) = (refl, refl, refl)
+same-itself : {S : Type 0} (g : Ghosts S) (tells : Type 0) (ledger : Ledger S) (draft : Option Draft) → IsSameDraft g tells ledger draft draft
+same-itself g tells ledger None = tt
+same-itself g tells ledger (Some draft) = (refl, refl, refl)
 
-pub same-untouched : {S : Type 0} (old new : Ledger S) → new ≡ old → SameDraft old new
-same-untouched old new is = subst (SameDraft old) (sym is) (record { draft = same-itself old.draft; next = refl })
+pub same-untouched : {S : Type 0} (g : Ghosts S) (tells : Type 0) (old new : Ledger S) → new ≡ old → SameDraft g tells old new
+same-untouched g tells old new is = subst (SameDraft g tells old) (sym is) (record { draft = same-itself g tells old old.draft; next = refl })
+
+pub if_err : {A E : Type 0} (r : Result A E) (P : Type 0) → P → OnErr r P
+if_err (Ok x) P holds = tt
+if_err (Err e) P holds = holds
 
 -- ---- the group
 

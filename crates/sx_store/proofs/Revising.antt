@@ -258,23 +258,23 @@ module _ {S : Type 0} (s : spot.Ghosts S) (old mid new : Ledger S) (same : SameB
       → IfSome bytes (λ _. Commits s book next r new × Leaves (birth_in mid) book next r from was has) → IfSome bytes (λ _. Commits s book next r new × Leaves (birth_in old) book next r from was has)
   leaves-before bytes book next r from was has = subst (λ (b : Birth). IfSome bytes (λ _. Commits s book next r new × Leaves b book next r from was has)) same-birth
 
-  same-then : SameDraft old mid → SameBut mid new → new.draft ≡ mid.draft → SameBut old new × SameDraft old new
-  same-then before later draft = (
+  same-then : (tells : Type 0) → SameDraft s tells old mid → SameBut mid new → new.draft ≡ mid.draft → SameBut old new × SameDraft s tells old new
+  same-then tells before later draft = (
     record {
       log = record { birth = later.log.birth ∙ same.log.birth; rows = later.log.rows ∙ same.log.rows; end = later.log.end ∙ same.log.end };
       cells = later.cells ∙ same.cells;
       stage = later.stage ∙ same.stage;
     },
     record {
-      draft = subst (λ (o : Option Draft). IsSameDraft old.draft o) (sym draft) before.draft;
+      draft = subst (λ (o : Option Draft). IsSameDraft s tells old old.draft o) (sym draft) before.draft;
       next = ap (λ (o : Option Draft). next_in o (last_root_of new)) draft ∙ ap (λ (rows : List GroupRow). next_in mid.draft (root_behind first_root rows)) later.log.rows ∙ before.next;
     },
   )
 
-  pub same-ledger : (r : Result Committed CommitFault) → SameDraft old mid → IfErr r (λ fault. IsNoFailure fault → SameBut mid new × (new.draft ≡ mid.draft))
-      → IfErr r (λ fault. IsNoFailure fault → SameBut old new × SameDraft old new)
-  same-ledger (Ok done) before later = tt
-  same-ledger (Err fault) before later = λ none. let parts = later none in same-then before parts.0 parts.1
+  pub same-ledger : (tells : Type 0) (r : Result Committed CommitFault) → SameDraft s tells old mid → IfErr r (λ fault. IsNoFailure fault → SameBut mid new × (new.draft ≡ mid.draft))
+      → IfErr r (λ fault. IsNoFailure fault → SameBut old new × SameDraft s tells old new)
+  same-ledger tells (Ok done) before later = tt
+  same-ledger tells (Err fault) before later = λ none. let parts = later none in same-then tells before parts.0 parts.1
 
 pub goes-on : {S : Type 0} (r : Result Committed CommitFault) (new : Ledger S) → OnOk r ((stage_of new ≡ None) × (new.draft ≡ None)) → OnOk r (stage_of new ≡ None)
 goes-on (Ok done) new is = is.0

@@ -8,6 +8,7 @@ use Rattle.sx_layout.specs.Rules.{Follow, frames_size}
 use Rattle.sx_log.specs.Committing.{KeepsLog, SameLog}
 use Rattle.sx_log.specs.Kept.{IsLogOf}
 use Rattle.sx_reader.specs.Cells.{AreCells, TellFrames, frames_of}
+use Rattle.sx_store.specs.Damage.{IsMade}
 use Rattle.sx_store.specs.Shows.{birth_in, next_of, records_of, stage_of}
 use Rattle.sx_store.specs.declared.draft.Draft.{Draft}
 use Rattle.sx_store.specs.declared.ledger.Ledger.{Ledger}
@@ -66,14 +67,19 @@ pub record SameBut {S : Type 0} (old new : Ledger S) : Type 0 where
   pub cells : new.cells.items ≡ old.cells.items
   pub stage : stage_of new ≡ stage_of old
 
--- The draft is the same, or one without an edit, made of the last revision, where there was none.
-abbrev pub IsSameDraft : Option Draft → Option Draft → Type 0
-IsSameDraft None after = Unit {0}
-IsSameDraft (Some before) None = ⊥
-IsSameDraft (Some before) (Some after) =
+-- the document has the same records, the same table and the same next number
+abbrev pub IsSameDocument : Draft → Draft → Type 0
+IsSameDocument before after =
     (records_of after ≡ records_of before) × (after.paths.paths ≡ before.paths.paths) × (after.next ≡ before.next)
 
+-- The draft is the same, or one without an edit, made of the last revision, where there was none.
+abbrev pub IsSameDraft : {S : Type 0} → spot.Ghosts S → Type 0 → Ledger S → Option Draft → Option Draft → Type 0
+IsSameDraft g tells ledger None None = Unit {0}
+IsSameDraft g tells ledger None (Some after) = IsMade g tells ledger None after
+IsSameDraft g tells ledger (Some before) None = ⊥
+IsSameDraft g tells ledger (Some before) (Some after) = IsSameDocument before after
+
 -- what the next new node's number is, and the open edits, are the same
-pub record SameDraft {S : Type 0} (old new : Ledger S) : Type 0 where
-  pub draft : IsSameDraft old.draft new.draft
+pub record SameDraft {S : Type 0} (g : spot.Ghosts S) (tells : Type 0) (old new : Ledger S) : Type 0 where
+  pub draft : IsSameDraft g tells old old.draft new.draft
   pub next : next_of new ≡ next_of old

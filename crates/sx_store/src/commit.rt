@@ -46,13 +46,15 @@ pub(crate) fn commit<V: Volume, C: Clock>(
         → (moment : ℤ) × FitsSigned w64 moment × Ticks (C.moments clock.old) moment (C.moments clock.new)
         × (IfSome (V.bytes volume.old) (λ _. Commits V.Spot.Spot book (next_commit book moment) result ledger.new
         × Leaves (birth_in ledger.old) book (next_commit book moment) result (V.moment volume.old) (V.was_image volume.new) (V.synced volume.new))) }
+    ensures ticks { stage_of ledger.old ≡ None → (moment : ℤ) × FitsSigned w64 moment × Ticks (C.moments clock.old) moment (C.moments clock.new) }
     ensures goes_on { OnOk result (stage_of ledger.new ≡ None) }
     ensures fails { (stage : ℕ) → IsErrOf result (CommitFault.Failed stage) → stage_of ledger.new ≡ Some stage }
     ensures stopped { (stage : ℕ) → IsErrOf result (CommitFault.Stopped stage) ↔ (stage_of ledger.old ≡ Some stage) }
     ensures same_clock { (stage : ℕ) → stage_of ledger.old ≡ Some stage → C.moments clock.new ≡ C.moments clock.old }
     ensures same_volume { (stage : ℕ) → stage_of ledger.old ≡ Some stage → volume.new ≡ volume.old }
     ensures same_stopped { (stage : ℕ) → stage_of ledger.old ≡ Some stage → ledger.new ≡ ledger.old }
-    ensures same_ledger { IfErr result (λ fault. IsNoFailure fault → SameBut ledger.old ledger.new × SameDraft ledger.old ledger.new) }
+    ensures same_ledger { IfErr result (λ fault. IsNoFailure fault → SameBut ledger.old ledger.new
+        × SameDraft V.Spot.Spot (V.End.tells end.old) ledger.old ledger.new) }
     ensures same_bytes { IfErr result (λ fault. IsNoFailure fault → V.bytes volume.new ≡ V.bytes volume.old) }
     ensures read_failed { IsErrOf result CommitFault.ReadFailed → Rose (V.End.faults end.old) (V.End.faults end.new) }
     ensures damaged { (damage : Damage) → IsErrOf result (CommitFault.Damaged damage)
@@ -100,7 +102,7 @@ fn next_group<S: Spot, E: ReadEnd<Spot = S>>(
         → IfErr result (λ fault. Commits S.Spot book (next_commit book moment) (Err fault) ledger.new) }
     ensures shown { E.tells end.old → (book : Book) → Shows S.Spot ledger.old book → Shows S.Spot ledger.new book }
     ensures same { SameBut ledger.old ledger.new }
-    ensures same_draft { SameDraft ledger.old ledger.new }
+    ensures same_draft { SameDraft S.Spot (E.tells end.old) ledger.old ledger.new }
     ensures no_failure { IfErr result IsNoFailure }
     ensures not_stopped { (stage : ℕ) → IsErrOf result (CommitFault.Stopped stage) → ⊥ }
     ensures read_failed { IsErrOf result CommitFault.ReadFailed → Rose (E.faults end.old) (E.faults end.new) }

@@ -12,7 +12,7 @@ ghost use Rattle.sx_reader.specs.Documents.{TellsAt};
 ghost use Rattle.sx_store.specs.Damage.{IsDamagedAt, IsLoaded, Kept, KeepsAt};
 ghost use Rattle.sx_store.specs.Drafts.{AnswersDraft, GivesDraft, IsRootOf, ShowsDraft};
 ghost use Rattle.sx_store.specs.Shows.{records_of};
-ghost use Rattle.sx_store.specs.Sound.{IsSameDraft};
+ghost use Rattle.sx_store.specs.Sound.{IsSameDocument};
 
 use std::alloc::Global;
 use sx_edit::EditFault;
@@ -41,7 +41,7 @@ impl Draft {
     /// Does the edit. After each error the draft is as it was.
     pub(crate) fn apply(&mut self, alloc: Global, edit: &Edit) -> Result<Edited, EditFault>
         ensures answers { (state : State) → state.next ≤ number_limit → ShowsDraft state self.old → AnswersDraft (edit_of edit.now) state self.new result }
-        ensures refused { OnErr result (IsSameDraft (Some self.old) (Some self.new)) }
+        ensures refused { OnErr result (IsSameDocument self.old self.new) }
         ensures fault { IfErr result (ExplainsEdit (edit_of edit.now) (min self.old.next number_limit) (Some (records_of self.old)) self.old.paths.paths
             (Rose 0 0)) }
     {

@@ -156,7 +156,7 @@ impl<S: Spot> Ledger<S> {
         ensures failed { IsErrOf result WriterFault.Failed → Rose (E.faults end.old) (E.faults end.new) }
         ensures damaged { (damage : Damage) → IsErrOf result (WriterFault.Damaged damage)
             → IsEditDamage S.Spot (E.tells end.old) (edit_of edit.now) self.old.draft self.old damage }
-        ensures refused { OnErr result (SameDraft self.old self.new) }
+        ensures refused { OnErr result (SameDraft S.Spot (E.tells end.old) self.old self.new) }
         ensures same_stopped { (stage : ℕ) → stage_of self.old ≡ Some stage → self.new ≡ self.old }
         ensures same { SameBut self.old self.new }
         ensures one_read { E.reads end.new ≤ E.reads end.old + 1 }

@@ -57,7 +57,7 @@ impl<V: Volume> Writer<'_, V> {
         ensures failed { IsErrOf result WriterFault.Failed → Rose (V.End.faults end.old) (V.End.faults end.new) }
         ensures damaged { (damage : Damage) → IsErrOf result (WriterFault.Damaged damage)
             → IsEditDamage V.Spot.Spot (V.End.tells end.old) (edit_of edit.now) self.old.ledger.draft self.old.ledger damage }
-        ensures refused { OnErr result (SameDraft self.old.ledger self.new.ledger) }
+        ensures refused { OnErr result (SameDraft V.Spot.Spot (V.End.tells end.old) self.old.ledger self.new.ledger) }
         ensures same_stopped { (stage : ℕ) → stage_of self.old.ledger ≡ Some stage → self.new.ledger ≡ self.old.ledger }
         ensures same { SameBut self.old.ledger self.new.ledger }
         ensures sound { IsSound V.Volume V.Spot.Spot self.old.volume.now self.old.ledger → IsSound V.Volume V.Spot.Spot self.new.volume.now self.new.ledger }
@@ -109,13 +109,15 @@ impl<V: Volume> Writer<'_, V> {
             → (moment : ℤ) × FitsSigned w64 moment × Ticks (C.moments clock.old) moment (C.moments clock.new)
             × (IfSome (V.bytes self.old.volume.now) (λ _. Commits V.Spot.Spot book (next_commit book moment) result self.new.ledger
             × Leaves (birth_in self.old.ledger) book (next_commit book moment) result (V.moment self.old.volume.now) (V.was_image self.new.volume.now) (V.synced self.new.volume.now))) }
+        ensures ticks { stage_of self.old.ledger ≡ None → (moment : ℤ) × FitsSigned w64 moment × Ticks (C.moments clock.old) moment (C.moments clock.new) }
         ensures goes_on { OnOk result (stage_of self.new.ledger ≡ None) }
         ensures fails { (stage : ℕ) → IsErrOf result (CommitFault.Failed stage) → stage_of self.new.ledger ≡ Some stage }
         ensures stopped { (stage : ℕ) → IsErrOf result (CommitFault.Stopped stage) ↔ (stage_of self.old.ledger ≡ Some stage) }
         ensures same_clock { (stage : ℕ) → stage_of self.old.ledger ≡ Some stage → C.moments clock.new ≡ C.moments clock.old }
         ensures same_volume { (stage : ℕ) → stage_of self.old.ledger ≡ Some stage → self.new.volume.now ≡ self.old.volume.now }
         ensures same_stopped { (stage : ℕ) → stage_of self.old.ledger ≡ Some stage → self.new.ledger ≡ self.old.ledger }
-        ensures same_ledger { IfErr result (λ fault. IsNoFailure fault → SameBut self.old.ledger self.new.ledger × SameDraft self.old.ledger self.new.ledger) }
+        ensures same_ledger { IfErr result (λ fault. IsNoFailure fault → SameBut self.old.ledger self.new.ledger
+            × SameDraft V.Spot.Spot (V.End.tells end.old) self.old.ledger self.new.ledger) }
         ensures same_bytes { IfErr result (λ fault. IsNoFailure fault → V.bytes self.new.volume.now ≡ V.bytes self.old.volume.now) }
         ensures read_failed { IsErrOf result CommitFault.ReadFailed → Rose (V.End.faults end.old) (V.End.faults end.new) }
         ensures damaged { (damage : Damage) → IsErrOf result (CommitFault.Damaged damage)

@@ -93,7 +93,7 @@ returns-clause-fails g c stage is = (c.add.ensures.fails stage is).0
 
 pub returns-clause-same_ledger : goal.returns-clause-same_ledger
 returns-clause-same_ledger g c =
-    same-ledger g.V.Spot.Spot c.args.ledger.now c.next_group.new.ledger c.add.new.ledger c.next_group.ensures.same c.add.result c.next_group.ensures.same_draft c.add.ensures.same_ledger
+    same-ledger g.V.Spot.Spot c.args.ledger.now c.next_group.new.ledger c.add.new.ledger c.next_group.ensures.same (g.V.End.ReadEnd.tells c.args.end.now) c.add.result c.next_group.ensures.same_draft c.add.ensures.same_ledger
 
 pub returns-clause-counts : goal.returns-clause-counts
 returns-clause-counts g c =
@@ -126,3 +126,9 @@ returns-clause-keeps g c going =
     let next = subst (λ (root : RevisionRoot). IsGroupAfter root made) root c.in_ok-group.ensures.group in
     all-before s old mid new same (g.V.Volume.bytes c.args.volume.now) (g.V.Volume.was_image c.add.new.volume (g.V.Volume.moment c.args.volume.now))
     (has-all g.V.Volume s c.args.volume.now c.add.new.volume mid new made next c.add.result c.add.ensures.leaves)
+
+pub returns-in_err-group-clause-ticks : goal.returns-in_err-group-clause-ticks
+returns-in_err-group-clause-ticks g c going = let fits : FitsSigned w64 c.now.result = search rules in (c.now.result, fits, c.now.ensures)
+
+pub returns-clause-ticks : goal.returns-clause-ticks
+returns-clause-ticks g c going = let fits : FitsSigned w64 c.now.result = search rules in (c.now.result, fits, c.now.ensures)

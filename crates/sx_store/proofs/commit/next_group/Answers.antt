@@ -27,7 +27,7 @@ pub returns-in_err-draft-clause-shown : goal.returns-in_err-draft-clause-shown
 returns-in_err-draft-clause-shown g c now book shows = subst (λ ledger. Shows g.S.Spot ledger book) (sym c.in_err-draft.ensures.refused) shows
 
 pub returns-in_err-draft-clause-same_draft : goal.returns-in_err-draft-clause-same_draft
-returns-in_err-draft-clause-same_draft g c = same-untouched c.args.ledger.now c.take_draft.new.self c.in_err-draft.ensures.refused
+returns-in_err-draft-clause-same_draft g c = same-untouched g.S.Spot (g.E.ReadEnd.tells c.args.end.now) c.args.ledger.now c.take_draft.new.self c.in_err-draft.ensures.refused
 
 pub returns-in_err-draft-clause-no_failure : goal.returns-in_err-draft-clause-no_failure
 returns-in_err-draft-clause-no_failure g c = undrafted-failure c.from_residual.result c.in_err-draft.field-0.0 c.from_residual.ensures.1
