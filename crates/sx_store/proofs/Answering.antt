@@ -1,5 +1,5 @@
 -- What is answered of a revision that was read.
-use Rattle.std.proofs.Common.{◌≡◌, ◌∙◌, ℕ, zero, suc, inl, inr, List, ap, sym, subst, Option, Some, Result, Ok, Err}
+use Rattle.std.proofs.Common.{◌≡◌, ◌∙◌, ℕ, zero, suc, inl, inr, List, ap, sym, subst, refl, option_map, Option, None, Some, Result, Ok, Err}
 use Rattle.std.specs.Prelude.{IsErrOf, IsErrAnd}
 use Rattle.sx_bytes.specs.declared.damage.Damage.{Damage}
 use Rattle.sx_model.specs.State.{State}
@@ -19,6 +19,7 @@ use Rattle.sx_tree.specs.declared.record.NodeRecord.{NodeRecord}
 use Rattle.sx_tree.specs.declared.record.PathRecord.{PathRecord}
 use Rattle.sx_view.specs.QueryFault.{query_fault}
 use Rattle.sx_view.specs.Records.{RecordMap}
+use Rattle.sx_view.specs.Rows.{row_of}
 use Rattle.sx_view.specs.declared.fault.Fault.{Fault}
 use Rattle.sx_view.specs.declared.fault.Fault.TheVariants.{Failed, Damaged, OutOfMemory}
 use Rattle.sx_view.specs.declared.fault.QueryFault.{QueryFault}
@@ -70,6 +71,11 @@ pub damage-asked : {S : Type 0} (g : Ghosts S) (tells : Type 0) (ledger : Ledger
     → IsQueryDamage g tells ledger root asked damage
 damage-asked g tells ledger root asked document about damage at is cause =
     inr (record { nodes = nodes_of document; paths = paths_of document }, keeps-at g tells ledger.cells.items root.node_root document at, (about, is, cause))
+
+-- no row is told where there is no record
+pub unmapped : (o : Option NodeRecord) → None ≡ option_map row_of o → o ≡ None
+unmapped None none = refl
+unmapped (Some row) none = absurd (cc none)
 
 -- what is read of a ledger's cells by one of its roots
 pub tells-read : {S : Type 0} (g : Ghosts S) (state : State) (cells read : List (Cell S)) (root given : RevisionRoot) → read ≡ cells → given ≡ root → TellsAt g state cells root.node_root → TellsAt g state read given.node_root

@@ -111,6 +111,10 @@ IsQueryCause ledger root asked kept damage = (about : About) × IsAboutOf ledger
 abbrev pub IsQueryDamage : {S : Type 0} → Ghosts S → Type 0 → Ledger S → RevisionRoot → Query → Damage → Type 0
 IsQueryDamage g tells ledger root asked damage = IsDamagedAt g tells ledger.cells.items root.node_root (IsQueryCause ledger root asked) damage
 
+-- the revision with this root has no record of the node
+abbrev pub HasNoNode : {S : Type 0} → Ghosts S → Type 0 → Ledger S → RevisionRoot → ℕ → Type 0
+HasNoNode g tells ledger root node = (kept : Kept) × KeepsAt g tells ledger.cells.items root.node_root kept × (fin.get kept.nodes node ≡ None)
+
 -- the draft has these records, and the table of so many of the paths
 abbrev pub IsLoaded : Kept → ℕ → Draft → Type 0
 IsLoaded kept count draft = (records_of draft ≡ kept.nodes) × IsTable kept.paths count draft.paths.paths

@@ -8,7 +8,7 @@ ghost use Rattle.sx_query.specs.Causes.{IsAboutNode};
 ghost use Rattle.sx_query.specs.Gives.{Gives, IsText};
 ghost use Rattle.sx_reader.specs.Asked.{ExplainsSome, KeepAll};
 ghost use Rattle.sx_run.specs.Run.{Book};
-ghost use Rattle.sx_store.specs.Damage.{IsTakenDamage, IsEditDamage, IsMadeOf, IsQueryDamage, root_at};
+ghost use Rattle.sx_store.specs.Damage.{HasNoNode, IsTakenDamage, IsEditDamage, IsMadeOf, IsQueryDamage, root_at};
 ghost use Rattle.sx_store.specs.Edits.{Edits};
 ghost use Rattle.sx_store.specs.Shows.{IsDraftOf, Shows, count_of, frames_in, names_in, next_of, stage_of};
 ghost use Rattle.sx_store.specs.Sound.{IsWhole, SameBut, SameDraft};
@@ -80,7 +80,7 @@ impl<S: Spot> Ledger<S> {
     ///
     /// # Errors
     ///
-    /// `NoNode` and `NoPath` where the question names a node or path that is not there; `Failed` only where the end's faults rose;
+    /// `NoNode` and `NoPath` where the question names a node that has no record or a path that is not there; `Failed` only where the end's faults rose;
     /// `Damaged` by the first rule that the revision's frame breaks, or by the rule that its records break; never where the ledger shows
     /// commits. `OutOfMemory`. `Missing` never comes.
     pub fn answer<E: ReadEnd<Spot = S>>(
@@ -96,6 +96,8 @@ impl<S: Spot> Ledger<S> {
             → Gives (names_in self.now) (state_of book.commits revision) query.now result }
         ensures texts { (node : ℕ) → query.now ≡ queries.Text node → IfOk result IsText }
         ensures no_node { (node : ℕ) → IsErrOf result (QueryFault.NoNode node) → IsAboutNode query.now node }
+        ensures absent { (node : ℕ) → IsErrOf result (QueryFault.NoNode node)
+            → HasNoNode S.Spot (E.tells end.old) self.now (root_at self.now revision) node }
         ensures no_path { (path : ℕ) → IsErrOf result (QueryFault.NoPath path) → query.now ≡ queries.Path path }
         ensures never_missing { (asked seen : ℕ) → IsErrOf result (QueryFault.Missing asked seen) → ⊥ }
         ensures failed { IsErrOf result QueryFault.Failed → Rose (E.faults end.old) (E.faults end.new) }

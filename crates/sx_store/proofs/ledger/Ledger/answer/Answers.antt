@@ -1,10 +1,10 @@
 use Rattle.std.proofs.Common.{ap, sym, subst, arith, length, refl}
 use Rattle.sx_root.specs.declared.root.RevisionRoot.{RevisionRoot}
 use Rattle.sx_model.specs.Commit.{state_of}
-use Rattle.sx_store.specs.Damage.{IsQueryCause, IsQueryDamage, root_at}
+use Rattle.sx_store.specs.Damage.{HasNoNode, IsQueryCause, IsQueryDamage, root_at}
 use Rattle.sx_store.specs.Drafts.{IsRootOf}
 use Rattle.sx_store.specs.Shows.{names_in}
-use Rattle.sx_store.proofs.Answering.{damage-asked, damage-read, document-read, explains-read, gives-asked, gives-read, tells-read}
+use Rattle.sx_store.proofs.Answering.{damage-asked, damage-read, document-read, explains-read, gives-asked, gives-read, keeps-at, tells-read, unmapped}
 use Rattle.sx_store.proofs.Drafting.{are-of}
 use Rattle.sx_store.proofs.Telling.{count-shown, revision}
 use Rattle.sx_store.proofs.Wholes.{numbers}
@@ -53,3 +53,11 @@ returns-clause-damaged g c damage is =
     let at = document-read g.S.Spot (g.E.ReadEnd.tells c.args.end.now) c.args.self.now.cells.items c.deref.result.now root root c.in_ok-document.document c.deref.ensures.value refl c.in_ok-document.ensures.document in
     subst (λ (r : RevisionRoot). IsQueryDamage g.S.Spot (g.E.ReadEnd.tells c.args.end.now) c.args.self.now r c.args.query.now damage) c.root-root.ensures.root
     (damage-asked g.S.Spot (g.E.ReadEnd.tells c.args.end.now) c.args.self.now root c.args.query.now c.in_ok-document.document _ damage at (refl, refl, refl) (c.ask.ensures.damaged damage is))
+
+pub returns-clause-absent : goal.returns-clause-absent
+returns-clause-absent g c node is =
+    let tells = g.E.ReadEnd.tells c.args.end.now in
+    let root = c.root-root.result in
+    let at = document-read g.S.Spot tells c.args.self.now.cells.items c.deref.result.now root root c.in_ok-document.document c.deref.ensures.value refl c.in_ok-document.ensures.document in
+    subst (λ (r : RevisionRoot). HasNoNode g.S.Spot tells c.args.self.now r node) c.root-root.ensures.root
+    (_, keeps-at g.S.Spot tells c.args.self.now.cells.items root.node_root c.in_ok-document.document at, unmapped _ ((c.ask.ensures.no_node node is).1))
