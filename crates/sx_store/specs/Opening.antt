@@ -1,5 +1,5 @@
 -- What opening leaves of a volume.
-pub use Rattle.sx_log.specs.Calls.{IsSynced, IsSyncedOrNot, IsUnsynced}
+pub use Rattle.sx_log.specs.Calls.{HoldsSinceSync, IsSynced, IsSyncedOrNot, IsUnsynced}
 pub use Rattle.sx_log.specs.Creating.{IsOther}
 pub use Rattle.sx_log.specs.Opening.{Explains}
 use Rattle.std.specs.Prelude.{◌≡◌, ◌⊎◌, Result, Ok, Err}

@@ -1,19 +1,15 @@
 ghost use Rattle.std.specs.Prelude.{◌≡◌, ◌+◌, ◌≤◌, ◌↔◌, ℕ, ℤ, Some, None, IfSome, IfErr, OnOk, OnErr, IsErrOf, IsSome, FitsSigned, []};
 ghost use Rattle.std.specs.Int.{w64};
 ghost use Rattle.sx_bytes.specs.declared.damage.Damage.{Damage};
-ghost use Rattle.sx_model.specs.Commit.{state_of};
 ghost use Rattle.sx_model.specs.Edit.{IsEdit, edit_of};
 ghost use Rattle.sx_outside.specs.Clock.{Ticks};
 ghost use Rattle.sx_outside.specs.Faults.{Rose};
-ghost use Rattle.sx_query.specs.Causes.{IsAboutNode};
-ghost use Rattle.sx_query.specs.Gives.{Gives};
 ghost use Rattle.sx_run.specs.Run.{Book, next_commit};
 ghost use Rattle.sx_store.specs.Commits.{Commits, IsNoFailure, Leaves};
-ghost use Rattle.sx_store.specs.Damage.{IsCommitDamage, IsEditDamage, IsQueryDamage, root_at};
+ghost use Rattle.sx_store.specs.Damage.{IsCommitDamage, IsEditDamage};
 ghost use Rattle.sx_store.specs.Edits.{Edits};
-ghost use Rattle.sx_store.specs.Shows.{Shows, birth_in, count_of, names_in, stage_of};
+ghost use Rattle.sx_store.specs.Shows.{Shows, birth_in, count_of, stage_of};
 ghost use Rattle.sx_store.specs.Sound.{GrowsFrom, HoldAll, IsSound, IsWhole, SameBut, SameDraft};
-ghost use Rattle.sx_tree.specs.declared.query.Query.TheVariants as queries;
 ghost use Rattle.sx_volume.specs.Images.{Elapses};
 
 use crate::commit::commit;
@@ -22,11 +18,10 @@ use crate::ledger::Ledger;
 use std::alloc::Global;
 use sx_outside::Clock;
 use sx_tree::edit::{Edit, Edited};
-use sx_tree::query::{Answer, Query};
-use sx_view::QueryFault;
 use sx_volume::{ReadEnd, Volume};
 
 /// A writer over its volume. To have the volume back, take the writer apart. The ends that its calls read are those of the volume.
+/// Questions are asked of its ledger.
 #[derive(Drop)]
 pub struct Writer<'a, V: Volume> {
     pub volume: &'a mut V,
@@ -137,30 +132,5 @@ impl<V: Volume> Writer<'_, V> {
         ensures end_never_falls { V.End.faults end.old ≤ V.End.faults end.new }
     {
         commit(alloc, &mut self.ledger, self.volume, end, clock)
-    }
-
-    /// Answers a question about a revision up to the last one, as the ledger does.
-    pub fn answer(
-        &self,
-        alloc: Global,
-        end: &mut V::End,
-        revision: u32,
-        query: &Query,
-    ) -> Result<Answer, QueryFault>
-        requires whole { IsWhole V.Spot.Spot self.now.ledger }
-        requires there { revision ≤ count_of self.now.ledger }
-        ensures answers { V.End.tells end.old → (book : Book) → Shows V.Spot.Spot self.now.ledger book
-            → Gives (names_in self.now.ledger) (state_of book.commits revision) query.now result }
-        ensures no_node { (node : ℕ) → IsErrOf result (QueryFault.NoNode node) → IsAboutNode query.now node }
-        ensures no_path { (path : ℕ) → IsErrOf result (QueryFault.NoPath path) → query.now ≡ queries.Path path }
-        ensures never_missing { (asked seen : ℕ) → IsErrOf result (QueryFault.Missing asked seen) → ⊥ }
-        ensures failed { IsErrOf result QueryFault.Failed → Rose (V.End.faults end.old) (V.End.faults end.new) }
-        ensures damaged { (damage : Damage) → IsErrOf result (QueryFault.Damaged damage)
-            → IsQueryDamage V.Spot.Spot (V.End.tells end.old) self.now.ledger (root_at self.now.ledger revision) query.now damage }
-        ensures one_read { V.End.reads end.new ≤ V.End.reads end.old + 1 }
-        ensures goes_on_telling { V.End.tells end.old → V.End.tells end.new }
-        ensures never_falls { V.End.faults end.old ≤ V.End.faults end.new }
-    {
-        self.ledger.answer(alloc, end, revision, query)
     }
 }
