@@ -1,9 +1,9 @@
 -- What is answered of a revision that was read.
 use Rattle.std.proofs.Common.{◌≡◌, ◌∙◌, ℕ, zero, suc, inl, inr, List, ap, sym, subst, refl, option_map, Option, None, Some, Result, Ok, Err}
-use Rattle.std.specs.Prelude.{IsErrOf, IsErrAnd}
+use Rattle.std.specs.Prelude.{◌⊎◌, IsErrOf, IsErrAnd}
 use Rattle.sx_bytes.specs.declared.damage.Damage.{Damage}
 use Rattle.sx_model.specs.State.{State}
-use Rattle.sx_query.specs.Causes.{IsCause}
+use Rattle.sx_query.specs.Causes.{IsCause, IsOfBelow, of_read}
 use Rattle.sx_query.specs.Gives as query
 use Rattle.sx_query.specs.Gives.{Gives, GivesEach}
 use Rattle.sx_query.specs.declared.about.About.{About}
@@ -15,6 +15,7 @@ use Rattle.sx_store.specs.Damage.{IsAboutOf, IsDamagedAt, IsQueryDamage, Kept, K
 use Rattle.sx_store.specs.declared.ledger.Ledger.{Ledger}
 use Rattle.sx_tree.specs.declared.query.Answer.{Answer}
 use Rattle.sx_tree.specs.declared.query.Query.{Query}
+use Rattle.sx_tree.specs.declared.query.Query.TheVariants.{Text, Node, Hash, Axis, Path, Paths, Select, Valid}
 use Rattle.sx_tree.specs.declared.record.NodeRecord.{NodeRecord}
 use Rattle.sx_tree.specs.declared.record.PathRecord.{PathRecord}
 use Rattle.sx_view.specs.QueryFault.{query_fault}
@@ -66,10 +67,22 @@ pub keeps-at : {S : Type 0} (g : Ghosts S) (tells : Type 0) (cells : List (Cell 
 keeps-at g tells cells zero document (of, none) = (of.nodes, none)
 keeps-at g tells cells (suc number) document (cell, bytes, there, read, is) = (cell, bytes, there, read, is.same_digest, is.bytes_are)
 
+-- nothing stands below a document in memory
+none-below : (asked : Query) → of_read asked ⊥ ⊥ → ⊥
+none-below (Text k) never = never
+none-below (Node k) never = never
+none-below (Hash k) never = never
+none-below (Axis a k) never = never
+none-below (Path p) never = never
+none-below Paths never = never
+none-below (Select path) never = never
+none-below (Valid t) never = never
+
 pub damage-asked : {S : Type 0} (g : Ghosts S) (tells : Type 0) (ledger : Ledger S) (root : RevisionRoot) (asked : Query) (document : Document) (about : About) (damage : Damage)
-    → IsDocumentAt g tells ledger.cells.items root.node_root document → IsAboutOf ledger root about → IsCause asked (Some (nodes_of document)) (Some (paths_of document)) about damage
-    → IsQueryDamage g tells ledger root asked damage
-damage-asked g tells ledger root asked document about damage at is cause =
+    → IsDocumentAt g tells ledger.cells.items root.node_root document → IsAboutOf ledger root about
+    → IsOfBelow asked (λ _. ⊥) (λ _. ⊥) damage ⊎ IsCause asked (Some (nodes_of document)) (Some (paths_of document)) about damage → IsQueryDamage g tells ledger root asked damage
+damage-asked g tells ledger root asked document about damage at is (inl never) = absurd (none-below asked never)
+damage-asked g tells ledger root asked document about damage at is (inr cause) =
     inr (record { nodes = nodes_of document; paths = paths_of document }, keeps-at g tells ledger.cells.items root.node_root document at, (about, is, cause))
 
 -- no row is told where there is no record

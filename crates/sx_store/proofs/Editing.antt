@@ -3,7 +3,6 @@ use Rattle.std.proofs.Common.{◌≡◌, ◌∙◌, ℕ, ◌<◌, ◌≤◌, inl
 use Rattle.std.specs.Prelude.{All, IsErrAnd, IsErrOf, IsOk, min}
 use Rattle.sx_bytes.specs.declared.damage.Damage.{Damage}
 use Rattle.sx_edit.specs.Answers.{Answers, AnswersEach, AreOf, IsTableOf}
-use Rattle.sx_edit.specs.Damage.{IsDamage}
 use Rattle.sx_edit.specs.EditFault.{ExplainsEdit}
 use Rattle.sx_edit.specs.Pathways.{Kept as Moment}
 use Rattle.sx_edit.specs.declared.fault.EditFault.{EditFault}
@@ -18,7 +17,7 @@ use Rattle.sx_edit.specs.Told.{Holds}
 use Rattle.sx_store.proofs.Drafting.{all-below}
 use Rattle.sx_model.specs.State.{State, empty_document}
 use Rattle.sx_run.specs.Run.{Book, current}
-use Rattle.sx_store.specs.Damage.{IsTakenDamage, IsEditDamage, IsMade}
+use Rattle.sx_store.specs.Damage.{IsTakenDamage, IsEditDamage, IsMade, IsToldDamage}
 use Rattle.sx_store.specs.Drafts.{AnswersDraft, IsReached}
 use Rattle.sx_store.specs.Edits.{Edits, with_edit}
 use Rattle.sx_store.specs.Faults.{fault_of_edit, writer_fault}
@@ -128,27 +127,28 @@ current-reached g ledger book shows =
     subst (λ (state : State). IsReached (after book.edits state)) last
     (reached book.commits (length book.commits) book.edits shows.commits.0 (subst (AreAccepted book.edits) (sym last) shows.accepted))
 
-damage-of : (edit : Edit) (next : ℕ) (told : Option (RecordMap NodeRecord)) (table : List PathRow) (rose : Type 0) (fault : EditFault) (damage : Damage) → ExplainsEdit edit next told table rose fault → fault_of_edit fault ≡ writers.Damaged damage → IsDamage edit next told table damage
-damage-of edit next told table rose (edits.Refused refusal) damage explains is = absurd (cc is)
-damage-of edit next told table rose edits.Failed damage explains is = absurd (cc is)
-damage-of edit next told table rose (edits.Damaged other) damage explains is = let same : other ≡ damage = cc is in subst (IsDamage edit next told table) same explains
-damage-of edit next told table rose edits.OutOfMemory damage explains is = absurd (cc is)
+damage-of : (edit : Edit) (next : ℕ) (nodes : RecordMap NodeRecord) (table : List PathRow) (rose : Type 0) (fault : EditFault) (damage : Damage)
+    → ExplainsEdit edit (min next number_limit) (Some nodes) table (λ _. ⊥) rose fault → fault_of_edit fault ≡ writers.Damaged damage → IsToldDamage edit next nodes table damage
+damage-of edit next nodes table rose (edits.Refused refusal) damage explains is = absurd (cc is)
+damage-of edit next nodes table rose edits.Failed damage explains is = absurd (cc is)
+damage-of edit next nodes table rose (edits.Damaged other) damage explains is = let same : other ≡ damage = cc is in subst (IsToldDamage edit next nodes table) same explains
+damage-of edit next nodes table rose edits.OutOfMemory damage explains is = absurd (cc is)
 
-pub damage-told : (edit : Edit) (next : ℕ) (told : Option (RecordMap NodeRecord)) (table : List PathRow) (rose : Type 0) (r : Result Edited WriterFault) (fault : EditFault) (damage : Damage) → IsErrAnd r (λ e. e ≡ fault_of_edit fault)
-    → ExplainsEdit edit next told table rose fault → IsErrOf r (writers.Damaged damage) → IsDamage edit next told table damage
-damage-told edit next told table rose (Ok edited) fault damage is explains told_damage = absurd is
-damage-told edit next told table rose (Err e) fault damage is explains told_damage = damage-of edit next told table rose fault damage explains (sym is ∙ err-same e (writers.Damaged damage) told_damage)
+pub damage-told : (edit : Edit) (next : ℕ) (nodes : RecordMap NodeRecord) (table : List PathRow) (rose : Type 0) (r : Result Edited WriterFault) (fault : EditFault) (damage : Damage) → IsErrAnd r (λ e. e ≡ fault_of_edit fault)
+    → ExplainsEdit edit (min next number_limit) (Some nodes) table (λ _. ⊥) rose fault → IsErrOf r (writers.Damaged damage) → IsToldDamage edit next nodes table damage
+damage-told edit next nodes table rose (Ok edited) fault damage is explains told_damage = absurd is
+damage-told edit next nodes table rose (Err e) fault damage is explains told_damage = damage-of edit next nodes table rose fault damage explains (sym is ∙ err-same e (writers.Damaged damage) told_damage)
 
 -- what damages the edit of a draft that was made
 pub edit-damage : {S : Type 0} (g : Ghosts S) (tells : Type 0) (edit : Edit) (ledger : Ledger S) (before : Option Draft) (draft : Draft) (damage : Damage) → IsMade g tells ledger before draft
-    → draft.next ≡ next_in before (last_root_of ledger) → IsDamage edit (min draft.next number_limit) (Some (records_of draft)) draft.paths.paths damage → IsEditDamage g tells edit before ledger damage
-edit-damage g tells edit ledger (Some before) draft damage made next is = subst (λ (d : Draft). IsDamage edit (min d.next number_limit) (Some (records_of d)) d.paths.paths damage) made is
+    → draft.next ≡ next_in before (last_root_of ledger) → IsToldDamage edit draft.next (records_of draft) draft.paths.paths damage → IsEditDamage g tells edit before ledger damage
+edit-damage g tells edit ledger (Some before) draft damage made next is = subst (λ (d : Draft). IsToldDamage edit d.next (records_of d) d.paths.paths damage) made is
 edit-damage g tells edit ledger None draft damage (kept, keeps, (records, table)) next is =
     inr (
       kept,
       keeps,
       inr
-          (draft.paths.paths, table, subst (λ (n : ℕ). IsDamage edit (min n number_limit) (Some kept.nodes) draft.paths.paths damage) next (subst (λ m. IsDamage edit (min draft.next number_limit) (Some m) draft.paths.paths damage) records is)),
+          (draft.paths.paths, table, subst (λ (n : ℕ). IsToldDamage edit n kept.nodes draft.paths.paths damage) next (subst (λ m. IsToldDamage edit draft.next m draft.paths.paths damage) records is)),
     )
 
 -- ---- the edit joins the open ones

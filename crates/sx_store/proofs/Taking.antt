@@ -8,7 +8,6 @@ use Rattle.sx_model.specs.Commit.{Commit, replay, state_of}
 use Rattle.sx_model.specs.Edit.{after}
 use Rattle.sx_model.specs.Records.{PathRow}
 use Rattle.sx_model.specs.State.{State, empty_document}
-use Rattle.sx_paths.specs.Load as loads
 use Rattle.sx_paths.specs.Load.{HasBrokenPath}
 use Rattle.sx_paths.specs.OfState.{AreNoPaths, AreRows, ShowsPaths, path_rows}
 use Rattle.sx_reader.specs.Documents.{ExplainsAt, GivesDocument, IsDocumentAt, nodes_of, paths_of}
@@ -22,6 +21,7 @@ use Rattle.sx_store.specs.declared.draft.Draft.{Draft}
 use Rattle.sx_store.specs.declared.ledger.Ledger.{Ledger}
 use Rattle.sx_store.proofs.Answering.{at-damage, keeps-at}
 use Rattle.sx_tree.specs.declared.record.PathRecord.{PathRecord}
+use Rattle.sx_view.specs.Records as views
 use Rattle.sx_view.specs.Records.{RecordMap}
 use Rattle.sx_view.specs.declared.fault.Fault.{Fault}
 use Rattle.sx_view.specs.declared.fault.Fault.TheVariants.{Failed, Damaged, OutOfMemory}
@@ -46,33 +46,33 @@ frame-damage g tells rose cells node_root cause (Ok draft) fault damage is expla
 frame-damage g tells rose cells node_root cause (Err e) fault damage is explains told =
     at-damage g tells rose cells node_root cause damage (subst (ExplainsAt g tells rose cells node_root) (sym is ∙ err-same e (Damaged damage) told) explains)
 
-no-broken : (state : State) (paths : Option (RecordMap PathRecord)) (count : ℕ) (fault : Fault) → (loads.IsDamaged fault → AreNoPaths paths count) → ShowsPaths state paths → count ≤ length state.paths → GivesDraft state (Err fault)
+no-broken : (state : State) (paths : Option (RecordMap PathRecord)) (count : ℕ) (fault : Fault) → (views.IsDamaged fault → AreNoPaths paths count) → ShowsPaths state paths → count ≤ length state.paths → GivesDraft state (Err fault)
 unfolding AreNoPaths
 no-broken state paths count Failed none shows within = tt
 no-broken state paths count (Damaged damage) none shows within = none tt state shows within
 no-broken state paths count OutOfMemory none shows within = tt
 
 pub gives-no_table : (state : State) (r : Result Draft Fault) (paths : Option (RecordMap PathRecord)) (count : ℕ) (fault : Fault) → IsErrAnd r (λ e. e ≡ fault)
-    → (loads.IsDamaged fault → AreNoPaths paths count) → ShowsPaths state paths → count ≡ length state.paths → GivesDraft state r
+    → (views.IsDamaged fault → AreNoPaths paths count) → ShowsPaths state paths → count ≡ length state.paths → GivesDraft state r
 gives-no_table state (Ok draft) paths count fault is none shows long = absurd is
 gives-no_table state (Err e) paths count fault is none shows long =
     subst (λ (e : Fault). GivesDraft state (Err e)) (sym is) (no-broken state paths count fault none shows (omega (arith, long)))
 
-broken-at : {T : Type 0} (x : T) (rose : Type 0) (broken : Damage → Type 0) (damage : Damage) → loads.Explains (Some x) rose broken (Damaged damage) → broken damage
-broken-at x rose broken damage (inl none) = absurd (cc none)
-broken-at x rose broken damage (inr is) = is
+broken-at : (rose : Type 0) (broken : Damage → Type 0) (damage : Damage) → views.Explains (λ _. ⊥) rose broken (Damaged damage) → broken damage
+broken-at rose broken damage (inl never) = absurd never
+broken-at rose broken damage (inr is) = is
 
 pub table-damage : {S : Type 0} (g : Ghosts S) (tells rose : Type 0) (cells : List (Cell S)) (root : RevisionRoot) (document : Document) (r : Result Draft Fault) (fault : Fault) (damage : Damage)
     → IsErrAnd r (λ e. e ≡ fault) → IsDocumentAt g tells cells root.node_root document
-    → loads.Explains (Some (paths_of document)) rose (HasBrokenPath (Some (paths_of document)) root.paths) fault → IsErrOf r (Damaged damage)
+    → views.Explains (λ _. ⊥) rose (HasBrokenPath (Some (paths_of document)) root.paths) fault → IsErrOf r (Damaged damage)
     → IsDamagedAt g tells cells root.node_root (λ kept damage. HasBrokenPath (Some kept.paths) root.paths damage) damage
 table-damage g tells rose cells root document (Ok draft) fault damage is at explains told = absurd is
 table-damage g tells rose cells root document (Err e) fault damage is at explains told =
     inr (
       record { nodes = nodes_of document; paths = paths_of document },
       keeps-at g tells cells root.node_root document at,
-      broken-at (paths_of document) rose (HasBrokenPath (Some (paths_of document)) root.paths) damage
-          (subst (loads.Explains (Some (paths_of document)) rose (HasBrokenPath (Some (paths_of document)) root.paths)) (sym is ∙ err-same e (Damaged damage) told) explains),
+      broken-at rose (HasBrokenPath (Some (paths_of document)) root.paths) damage
+          (subst (views.Explains (λ _. ⊥) rose (HasBrokenPath (Some (paths_of document)) root.paths)) (sym is ∙ err-same e (Damaged damage) told) explains),
     )
 
 pub rows-told : (paths : Option (RecordMap PathRecord)) (count : ℕ) (rows : List PathRow) (state : State) → AreRows paths count rows → ShowsPaths state paths → count ≡ length state.paths → rows ≡ path_rows state

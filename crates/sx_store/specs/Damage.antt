@@ -69,14 +69,18 @@ IsDraftDamage g tells ledger damage =
     let root = last_root_of ledger in
     IsDamagedAt g tells ledger.cells.items root.node_root (λ kept damage. HasBrokenPath (Some kept.paths) root.paths damage) damage
 
--- The records of a revision with this root are those of no document, in what the edit reaches.
+-- These records are those of no document, in what the edit reaches.
+abbrev pub IsToldDamage : Edit → ℕ → RecordMap NodeRecord → List PathRow → Damage → Type 0
+IsToldDamage edit next nodes table damage = IsDamage edit (min next number_limit) (Some nodes) table (λ _. ⊥) damage
+
+-- The same of those of a revision with this root.
 abbrev pub IsRecordDamage : Edit → RevisionRoot → Kept → Damage → Type 0
 IsRecordDamage edit root kept damage =
-    (table : List PathRow) × IsTable kept.paths root.paths table × IsDamage edit (min root.next number_limit) (Some kept.nodes) table damage
+    (table : List PathRow) × IsTable kept.paths root.paths table × IsToldDamage edit root.next kept.nodes table damage
 
 -- What damages an edit: over the open edits their records, and else the last revision's frame, table or records.
 abbrev pub IsEditDamage : {S : Type 0} → Ghosts S → Type 0 → Edit → Option Draft → Ledger S → Damage → Type 0
-IsEditDamage g tells edit (Some draft) ledger damage = IsDamage edit (min draft.next number_limit) (Some (records_of draft)) draft.paths.paths damage
+IsEditDamage g tells edit (Some draft) ledger damage = IsToldDamage edit draft.next (records_of draft) draft.paths.paths damage
 IsEditDamage g tells edit None ledger damage =
     let root = last_root_of ledger in
     IsDamagedAt g tells ledger.cells.items root.node_root

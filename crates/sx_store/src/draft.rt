@@ -43,7 +43,7 @@ impl Draft {
         ensures answers { (state : State) → state.next ≤ number_limit → ShowsDraft state self.old → AnswersDraft (edit_of edit.now) state self.new result }
         ensures refused { OnErr result (IsSameDocument self.old self.new) }
         ensures fault { IfErr result (ExplainsEdit (edit_of edit.now) (min self.old.next number_limit) (Some (records_of self.old)) self.old.paths.paths
-            (Rose 0 0)) }
+            (λ _. ⊥) (Rose 0 0)) }
     {
         let next = self.next.min(NUMBER_LIMIT);
         let edited = sx_edit::apply(alloc, &mut self.nodes, &mut self.paths, edit, next)?;

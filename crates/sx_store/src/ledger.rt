@@ -115,13 +115,7 @@ impl<S: Spot> Ledger<S> {
             from: &self.log.birth.from,
             to: &self.log.birth.to,
         };
-        sx_query::ask(
-            alloc,
-            &mut document.nodes,
-            &mut document.paths,
-            &about,
-            query,
-        )
+        sx_query::ask(alloc, &mut document, &about, query)
     }
 
     /// Checks all frames: of the frame to which the node root of its group leads a whole document is asked, and of each other frame no

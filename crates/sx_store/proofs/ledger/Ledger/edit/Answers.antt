@@ -34,7 +34,7 @@ returns-in_err-edited-clause-edited g c now book shows going =
 pub returns-in_err-edited-clause-damaged : goal.returns-in_err-edited-clause-damaged
 returns-in_err-edited-clause-damaged g c damage is =
     edit-damage g.S.Spot (g.E.ReadEnd.tells c.args.end.now) (edit_of c.args.edit.now) c.args.self.now c.args.self.now.draft c.in_ok-draft.draft damage c.in_ok-draft.ensures.made c.in_ok-draft.ensures.next
-    (damage-told (edit_of c.args.edit.now) (min c.in_ok-draft.draft.next number_limit) (Some (records_of c.in_ok-draft.draft)) c.in_ok-draft.draft.paths.paths _ c.from_residual-in_err-edited.result c.in_err-edited.field-0.0 damage c.from_residual-in_err-edited.ensures.1 c.in_err-edited.ensures.fault is)
+    (damage-told (edit_of c.args.edit.now) c.in_ok-draft.draft.next (records_of c.in_ok-draft.draft) c.in_ok-draft.draft.paths.paths _ c.from_residual-in_err-edited.result c.in_err-edited.field-0.0 damage c.from_residual-in_err-edited.ensures.1 c.in_err-edited.ensures.fault is)
 
 pub returns-clause-edited : goal.returns-clause-edited
 returns-clause-edited g c now book shows going =
