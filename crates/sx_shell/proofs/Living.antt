@@ -1,5 +1,5 @@
 -- A whole run, from the opening of its volume on.
-use Rattle.std.proofs.Common.{◌≡◌, ◌≢◌, ◌∙◌, ℕ, ℤ, zero, suc, ◌≤◌, ◌⊎◌, inl, inr, ⊎_elim, List, [], ◌++◌, length, get_or, replicate, Option, None, Some, IfSome, IsSome, option_map, refl, ap, sym, subst, arith, append-nil}
+use Rattle.std.proofs.Common.{◌≡◌, ◌≢◌, ◌∙◌, ℕ, ℤ, zero, suc, ◌<◌, ◌≤◌, ◌⊎◌, inl, inr, ⊎_elim, List, [], ◌++◌, length, get_or, replicate, Option, None, Some, IfSome, IsSome, option_map, refl, ap, sym, subst, arith, append-nil}
 use Rattle.std.proofs.Math.Seq.{take-append_seam}
 use Rattle.std.specs.Prelude.{drop, take}
 use Rattle.std.proofs.lemmas.Bool.{false≢true}
@@ -7,6 +7,7 @@ use Rattle.sx_layout.specs.Birth.{Birth}
 use Rattle.sx_layout.specs.Born.{HasLog}
 use Rattle.sx_layout.specs.FrameGroup.{FrameGroup}
 use Rattle.sx_model.specs.Commit.{Commit}
+use Rattle.sx_outside.specs.Faults.{Rose}
 use Rattle.sx_run.specs.Client.{client_count}
 use Rattle.sx_run.specs.Run.{Book, Client, Course, Failure, book_of, started}
 use Rattle.sx_script.proofs.Following.{given_nothing}
@@ -44,6 +45,11 @@ told_bytes : (bytes : Option (List ℕ)) → IsSome bytes → (all : List ℕ) �
 told_bytes None some = absurd (false≢true some)
 told_bytes (Some all) some = (all, refl)
 
+-- a commit that failed has its stage
+some_stage : (o : Option Failure) → IsSome o → IsSome (option_map (λ (failure : Failure). failure.stage) o)
+some_stage None some = some
+some_stage (Some failure) some = refl
+
 -- nothing was written
 pub nothing_more : (before : List ℕ) (written : Option (List ℕ)) → written ≡ Some before → written ≡ Some (before ++ [])
 nothing_more before written is = is ∙ ap (λ (b : List ℕ). Some b) (sym (append-nil before))
@@ -66,7 +72,7 @@ clients_of seen (suc n) = ap (λ (k : ℕ). suc k) (clients_of seen n)
 module _ {V S E : Type 0} (g : volume.Ghosts V S E) (old mid : V) (image : List ℕ) where
   -- the opening came to the success of its sync, or may not have come to it
   abbrev pub MayBeOpened : Type 0
-  MayBeOpened = IsSynced g image old mid ⊎ IsUnsynced (g.moment old) (g.is_image old) (g.was_image mid) (g.synced old) (g.synced mid)
+  MayBeOpened = IsSynced g image old mid ⊎ IsUnsynced g old mid
 
   opened_stands : (birth : Birth) (commits : List Commit) (synced : IsSynced g image old mid) → Stands image (Some birth) commits → (c : List ℕ) → g.was_image mid synced.moment c → Stands c (Some birth) commits
   opened_stands birth commits synced stands c left = subst (λ (b : List ℕ). Stands b (Some birth) commits) (sym (synced.since c left)) stands
@@ -124,27 +130,22 @@ module _ {V S E : Type 0} (g : Medium V S E) (old mid : V) (image : List ℕ) (c
     none_failed = λ none. none_of (length commits) client_count;
     stands = λ fine going. (image, bytes fine, stands);
     safe = ⊎_elim (λ (synced : IsSynced g.volume image old mid). inl (safe_opened commits stands synced))
-        (λ (unsynced : IsUnsynced (g.volume.moment old) (g.volume.is_image old) (g.volume.was_image mid) (g.volume.synced old) (g.volume.synced mid)).
-        inr (record { early = early; images = record { no_sync = unsynced.no_sync; images = unsynced.up_to } }, refl, refl)) opened;
+        (λ (unsynced : IsUnsynced g.volume old mid). inr (record { early = early; images = unsynced }, (refl, refl, refl))) opened;
+    cause = λ some. absurd (cc some);
   }
 
 module _ {V S E : Type 0} (g : volume.Ghosts V S E) (old mid : V) (image : List ℕ) (counts : (t : ℕ) (c : List ℕ) → t ≤ g.moment mid → g.is_image mid c → g.was_image mid t c) where
   kept_opened : IsWhole image → IsSynced g image old mid → KeepsSince g old mid image
   kept_opened whole synced =
       let keep = opened_keeps g old mid image synced whole in record {
-        moment = synced.moment;
-        later = synced.later;
-        synced = synced.here;
-        up_to = synced.up_to;
-        since = keep;
+        holds = record { moment = synced.moment; later = synced.later; no_later = synced.no_later; here = synced.here; first = synced.first; up_to = synced.up_to; since = keep };
         at_end = λ c left. keep c (counts synced.moment c synced.no_later left);
       }
 
   pub refused_kept : (status : Status) → IsWhole image → IsBeforeSync status → (status ≢ VolumeFault → g.bytes mid ≡ g.bytes old) → MayBeOpened g old mid image → IsKept g old mid image status
   refused_kept status whole early bytes opened =
       ⊎_elim (λ (synced : IsSynced g image old mid). inl (kept_opened whole synced))
-      (λ (unsynced : IsUnsynced (g.moment old) (g.is_image old) (g.was_image mid) (g.synced old) (g.synced mid)).
-      inr (record { early = early; images = record { no_sync = unsynced.no_sync; images = unsynced.up_to } }, bytes)) opened
+      (λ (unsynced : IsUnsynced g old mid). inr (record { early = early; images = unsynced }, bytes)) opened
 
 -- ---- a script was run
 
@@ -181,6 +182,9 @@ module _ {V S E : Type 0} (g : Medium V S E) where
     since_sync : (c : List ℕ) → g.volume.was_image new synced.moment c → g.volume.was_image mid synced.moment c ⊎ g.volume.was_image new (g.volume.moment mid) c
     since_sync c left = time.nothing_else synced.moment c synced.no_later left
 
+    here_first : (t : ℕ) → t < synced.moment → g.volume.synced new t → g.volume.synced old t
+    here_first t lt sync = synced.first t lt (time.no_sync_before t (let no_later = synced.no_later in omega (arith, lt, no_later)) sync)
+
     up_to_sync : (c : List ℕ) → g.volume.was_image new (g.volume.moment old) c → g.volume.is_image old c ⊎ g.volume.was_image new synced.moment c
     up_to_sync c left =
         ⊎_elim
@@ -198,7 +202,7 @@ module _ {V S E : Type 0} (g : Medium V S E) where
           moment = synced.moment;
           later = synced.later;
           synced = time.syncs synced.moment synced.here;
-          first = λ t lt sync. synced.first t lt (time.no_sync_before t (let no_later = synced.no_later in omega (arith, lt, no_later)) sync);
+          first = here_first;
           up_to = up_to_sync;
           since = stands_during g synced.moment commits new end held;
           held = held;
@@ -213,20 +217,24 @@ module _ {V S E : Type 0} (g : Medium V S E) where
         (λ c left.
         ⊎_elim (λ (earlier : g.volume.was_image mid synced.moment c). opened_keeps g.volume old mid image synced whole c earlier)
         (λ (here : g.volume.was_image new (g.volume.moment mid) c). keeps_all g.spot image ledger c read (have c here)) (since_sync c left)) in record {
-          moment = synced.moment;
-          later = synced.later;
-          synced = time.syncs synced.moment synced.here;
-          up_to = up_to_sync;
-          since = since;
+          holds = record {
+            moment = synced.moment;
+            later = synced.later;
+            no_later = let no_later = synced.no_later in let more = time.later in omega (arith, no_later, more);
+            here = time.syncs synced.moment synced.here;
+            first = here_first;
+            up_to = up_to_sync;
+            since = since;
+          };
           at_end = λ c left. since c (counts synced.moment c (let no_later = synced.no_later in let more = time.later in omega (arith, no_later, more)) left);
         }
 
     -- a run that ended behind its opening
     pub ended_run : (ends news : List E) (commits : List Commit) (moments now : Option (List ℤ)) (input before : List ℕ) (left written : Option (List ℕ)) (ledger : Ledger S) (revisions : List ℕ) (status : Status)
-        → Stands image (Some g.birth) commits → birth_in ledger ≡ g.birth → IsSound g.volume g.spot new ledger
+        → Stands image (Some g.birth) commits → birth_in ledger ≡ g.birth → IsSound g.volume g.spot new ledger → (IsSome (stage_of ledger) → Rose (g.volume.faults old) (g.volume.faults new))
         → (ended : Ended g (record { course = started commits moments; ends = ends; input = input; before = before; from = g.volume.moment mid }) left (place new ledger news revisions written now) status)
         → HasRun g (record { old = old; new = new; ends = ends; ends_after = news }) (started commits moments) (record { input = input; left = ended.rest; written = ended.out }) status
-    ended_run ends news commits moments now input before left written ledger revisions status stands birth sound ended = record {
+    ended_run ends news commits moments now input before left written ledger revisions status stands birth sound failed ended = record {
       end = ended.end;
       outcome = ended.outcome;
       risen = ended.risen;
@@ -241,6 +249,7 @@ module _ {V S E : Type 0} (g : Medium V S E) where
                 (bytes_stand g.volume g.spot new ledger ended.end.book sound ended.shows writes)),
           );
       safe = inl (safe_run commits ended.end.book stands ended.climbed);
+      cause = λ some. failed (subst (λ (o : Option ℕ). IsSome o) (sym ended.shows.stopped) (some_stage ended.end.book.stopped some));
     }
 
 module _ {V S E : Type 0} (g : volume.Ghosts V S E) (s : spot.Ghosts S) where

@@ -1,6 +1,8 @@
 -- Runs whose volume was not opened.
-use Rattle.std.proofs.Common.{◌≡◌, ◌≢◌, ℕ, ℤ, ◌≤◌, ◌⊎◌, inl, inr, List, [], length, Option, Some, refl, ap, sym, subst}
+use Rattle.std.proofs.Common.{◌≡◌, ◌≢◌, ℕ, ℤ, ◌≤◌, ◌⊎◌, inl, inr, List, [], length, Option, None, Some, IfSome, Ok, refl, ap, sym, subst}
 use Rattle.sx_bytes.specs.declared.damage.Damage.{Damage}
+use Rattle.sx_layout.specs.Born as born
+use Rattle.sx_layout.specs.Born.{Reading, Reads}
 use Rattle.sx_log.specs.declared.fault.LogFault.{LogFault}
 use Rattle.sx_log.specs.declared.fault.LogFault.TheVariants as faults
 use Rattle.sx_model.specs.Commit.{Commit}
@@ -8,11 +10,13 @@ use Rattle.sx_run.specs.Client.{client_count}
 use Rattle.sx_run.specs.Lines.{lines_of}
 use Rattle.sx_run.specs.Run.{started}
 use Rattle.sx_shell.proofs.Living.{MayBeOpened, refused_kept, refused_run}
-use Rattle.sx_shell.specs.Live.{EndsAs, HasRun, IsKept, IsWhole}
+use Rattle.sx_shell.specs.Live.{EndsAs, HasRun, IsKept, IsNoLog, IsWhole}
 use Rattle.sx_shell.specs.Code.{status_of}
 use Rattle.sx_shell.specs.Medium.{Medium}
 use Rattle.sx_shell.specs.declared.status.Status.TheVariants as status
-use Rattle.sx_store.specs.Opening.{Explains, IsOther}
+use Rattle.sx_store.specs.Opening.{Explains, IsGiven, IsOther}
+use Rattle.sx_store.specs.declared.ledger.Ledger.{Ledger}
+use Rattle.sx_volume.specs.declared.spot.Spot as spot
 use Rattle.sx_volume.specs.declared.volume.Volume as volume
 use Rattle.sx_whole.specs.Stands.{Stands}
 
@@ -41,7 +45,7 @@ module _ {V S E : Type 0} (g : Medium V S E) (old mid : V) (image : List ℕ) (c
       → HasRun g (record { old = old; new = mid; ends = ends; ends_after = ends }) (started commits moments) (record { input = input; left = input; written = [] }) (status_of fault)
   unopened_run ends commits moments input fault each stands (inl failed) bytes opened =
       subst (λ (f : LogFault). HasRun g (record { old = old; new = mid; ends = ends; ends_after = ends }) (started commits moments) (record { input = input; left = input; written = [] }) (status_of f)) (sym failed)
-      (refused_run g old mid image counts ends commits moments input status.VolumeFault each stands tt (inl (refl, refl)) (λ fine. absurd (fine refl)) opened)
+      (refused_run g old mid image counts ends commits moments input status.VolumeFault each stands tt (inl (refl, refl, refl)) (λ fine. absurd (fine refl)) opened)
   unopened_run ends commits moments input fault each stands (inr memory) bytes opened =
       subst (λ (f : LogFault). HasRun g (record { old = old; new = mid; ends = ends; ends_after = ends }) (started commits moments) (record { input = input; left = input; written = [] }) (status_of f)) (sym memory)
       (refused_run g old mid image counts ends commits moments input status.OutOfMemory each stands tt
@@ -63,3 +67,24 @@ module _ {V S E : Type 0} (g : volume.Ghosts V S E) (old mid : V) (image : List 
 pub complete_unopened : (fault : LogFault) → IsOther fault → fault ≢ faults.Failed → (status_of fault ≡ status.Done) ⊎ (status_of fault ≡ status.OutOfMemory)
 complete_unopened fault (inl failed) fine = absurd (fine failed)
 complete_unopened fault (inr memory) fine = inr (ap status_of memory)
+
+-- ---- a volume that is read as no log
+
+pub same_at : (P : List ℕ → Type 0) (o : Option (List ℕ)) → ((image : List ℕ) → P image) → IfSome o P
+same_at P None holds = tt
+same_at P (Some image) holds = holds image
+
+pub unread : (o : Option (List ℕ)) (P : List ℕ → Type 0) → IfSome o P → IfSome o (λ image. (reading : Reading) → Reads image reading → IsNoLog reading → P image)
+unread None P holds = tt
+unread (Some image) P holds = λ reading reads none. holds
+
+pub unread_never : {S : Type 0} (g : spot.Ghosts S) (o : Option (List ℕ)) (ledger : Ledger S) (P : List ℕ → Type 0) → IfSome o (λ image. (reading : Reading) → Reads image reading → IsGiven g reading (Ok ledger))
+    → IfSome o (λ image. (reading : Reading) → Reads image reading → IsNoLog reading → P image)
+unread_never {S} g None ledger P given = tt
+unread_never {S} g (Some image) ledger P given = λ reading reads none. by reading (given reading reads) none
+  where
+    by : (reading : Reading) → IsGiven g reading (Ok ledger) → IsNoLog reading → P image
+    by (born.Log birth groups) is none = absurd none
+    by born.Unborn is none = absurd is
+    by (born.NotOurs first) is none = absurd is
+    by (born.Damaged damage) is none = absurd is

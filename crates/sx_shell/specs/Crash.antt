@@ -4,8 +4,7 @@ use Rattle.sx_layout.specs.Birth.{Birth}
 use Rattle.sx_model.specs.Commit.{Commit}
 use Rattle.sx_run.specs.Run.{Book, Failure}
 use Rattle.sx_shell.specs.Medium.{Medium}
-use Rattle.sx_volume.specs.Images.{NoSync, KeptSince}
-use Rattle.sx_volume.specs.declared.volume.Volume.{Ghosts}
+use Rattle.sx_volume.specs.Images.{KeptSince}
 use Rattle.sx_whole.specs.Stands.{Stands, StandsOnceOpened}
 
 -- the list begins with these
@@ -65,8 +64,3 @@ pub record IsSafe {V S E : Type 0} (g : Medium V S E) (old new : V) (start : Lis
   pub since : (image : List ℕ) → g.volume.was_image new moment image → StandsDuring g.birth start end image
   pub held : HasClimbed g moment start new end
   pub at_end : (image : List ℕ) → g.volume.is_image new image → StandsAtEnd g.birth end image
-
--- No sync succeeded in the run: nothing was said, and each image is one that the volume had at the start.
-pub record IsUnopened {V S E : Type 0} (g : Ghosts V S E) (old new : V) : Type 0 where
-  pub no_sync : NoSync (g.synced old) (g.synced new)
-  pub images : (image : List ℕ) → g.was_image new (g.moment old) image → g.is_image old image

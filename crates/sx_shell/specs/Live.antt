@@ -1,15 +1,17 @@
 -- What a whole run leaves.
-use Rattle.std.specs.Prelude.{ℕ, ◌≡◌, ◌≢◌, ◌<◌, ◌⊎◌, List, [], Option, None, Some}
+use Rattle.std.specs.Prelude.{ℕ, ◌≡◌, ◌≢◌, ◌⊎◌, List, Option, None, Some, IsSome}
 use Rattle.sx_layout.specs.Birth.{Birth}
 use Rattle.sx_layout.specs.Born as born
 use Rattle.sx_layout.specs.Born.{Reading, Reads}
 use Rattle.sx_layout.specs.FrameGroup.{FrameGroup}
+use Rattle.sx_outside.specs.Faults.{Rose}
 use Rattle.sx_run.specs.Run.{Course}
-use Rattle.sx_shell.specs.Crash.{IsSafe, IsUnopened}
+use Rattle.sx_shell.specs.Crash.{IsSafe}
 use Rattle.sx_shell.specs.Medium.{HaveRisen, Medium, NoneFailed, NoneRose, terms_of}
-use Rattle.sx_shell.specs.Outcome.{Outcome, Told}
+use Rattle.sx_shell.specs.Outcome.{IsNothing, Outcome, Told}
 use Rattle.sx_shell.specs.declared.status.Status.{Status}
 use Rattle.sx_shell.specs.declared.status.Status.TheVariants.{Done, Usage, ReadFault, WriteFault, VolumeFault, Damaged, NotOurs, Unborn, Born, Missing, OutOfMemory}
+use Rattle.sx_store.specs.Opening.{HoldsSinceSync, IsUnsynced}
 use Rattle.sx_volume.specs.declared.volume.Volume.{Ghosts}
 use Rattle.sx_whole.specs.Stands.{KeepsAll, Stands}
 
@@ -44,7 +46,7 @@ IsAfterOpening OutOfMemory = Unit {0}
 -- No sync succeeded in the run, and no line was run.
 pub record NeverOpened {V S E : Type 0} (g : Ghosts V S E) (old new : V) (status : Status) : Type 0 where
   pub early : IsBeforeSync status
-  pub images : IsUnopened g old new
+  pub images : IsUnsynced g old new
 
 -- a volume and its ends, before a run and behind it
 pub record Around (V E : Type 0) : Type 0 where
@@ -54,8 +56,8 @@ pub record Around (V E : Type 0) : Type 0 where
   pub ends_after : List E
 
 -- A run from the start wrote these bytes, and ended so: it came to an end course, as far as the status says; the faults of each client's
--- end rose as often as a read failed for the client; the volume stands for its commits, unless it failed; and a crash at any moment leaves
--- commits of the run.
+-- end rose as often as a read failed for the client; the volume stands for its commits, unless it failed; a crash at any moment leaves
+-- commits of the run; and a commit failed only where the volume did.
 pub record HasRun {V S E : Type 0} (g : Medium V S E) (around : Around V E) (start : Course) (told : Told) (status : Status) : Type 0 where
   pub end : Course
   pub outcome : Outcome (terms_of g.birth) start told status end
@@ -63,7 +65,8 @@ pub record HasRun {V S E : Type 0} (g : Medium V S E) (around : Around V E) (sta
   pub none_failed : NoneRose g.end around.ends around.ends_after → NoneFailed end.clients
   pub stands : status ≢ VolumeFault → end.book.stopped ≡ None → (final : List ℕ) × (g.volume.bytes around.new ≡ Some final) × Stands final (Some g.birth) end.book.commits
   pub safe : IsSafe g around.old around.new start.book.commits end.book
-      ⊎ (NeverOpened g.volume around.old around.new status × (told.written ≡ []) × (end ≡ start))
+      ⊎ (NeverOpened g.volume around.old around.new status × IsNothing start told end)
+  pub cause : IsSome end.book.stopped → Rose (g.volume.faults around.old) (g.volume.faults around.new)
 
 -- the image reads as a birth and groups that keep the rules
 abbrev pub IsWhole : List ℕ → Type 0
@@ -71,11 +74,7 @@ IsWhole image = (birth : Birth) × (groups : List FrameGroup) × Reads image (bo
 
 -- From a moment on, at which the run's first sync succeeded, each image has all that was there at the start.
 pub record KeepsSince {V S E : Type 0} (g : Ghosts V S E) (old new : V) (image : List ℕ) : Type 0 where
-  pub moment : ℕ
-  pub later : g.moment old < moment
-  pub synced : g.synced new moment
-  pub up_to : (c : List ℕ) → g.was_image new (g.moment old) c → g.is_image old c ⊎ g.was_image new moment c
-  pub since : (c : List ℕ) → g.was_image new moment c → KeepsAll image c
+  pub holds : HoldsSinceSync g (KeepsAll image) old new
   pub at_end : (c : List ℕ) → g.is_image new c → KeepsAll image c
 
 abbrev pub IsKept : {V S E : Type 0} → Ghosts V S E → V → V → List ℕ → Status → Type 0

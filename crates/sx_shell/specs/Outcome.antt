@@ -61,8 +61,9 @@ pub record IsShort (terms : Terms) (start : Course) (told : Told) (end : Course)
   pub first : RanFirst terms start told.input told.written mid
   pub last : (end ≡ mid) ⊎ ((out : List ℕ) × Next terms mid first.more out end)
 
+-- nothing was taken from the source, and nothing was written
 abbrev pub IsNothing : Course → Told → Course → Type 0
-IsNothing start told end = (told.written ≡ []) × (end ≡ start)
+IsNothing start told end = (told.written ≡ []) × (told.left ≡ told.input) × (end ≡ start)
 
 -- From its start the run came to this end.
 abbrev pub Outcome : Terms → Course → Told → Status → Course → Type 0

@@ -15,7 +15,7 @@ ghost use Rattle.sx_shell.specs.Medium.{AllTell, EndsGoOn, medium};
 ghost use Rattle.sx_shell.specs.Progress.{Advanced, Ended, Progress, Start};
 ghost use Rattle.sx_shell.specs.Shows.{IsReady};
 ghost use Rattle.sx_shell.specs.Words.{IsLive};
-ghost use Rattle.sx_store.specs.Opening.{Explains};
+ghost use Rattle.sx_store.specs.Opening.{Explains, IsSynced, IsUnsynced};
 ghost use Rattle.sx_store.specs.Shows.{stage_of};
 ghost use Rattle.sx_whole.specs.Stands.{Stands};
 
@@ -88,10 +88,13 @@ pub fn run_live<R: Wait, V: Volume, S: Source, K: Sink, C: Clock, G: Gate>(
     ensures not_ours_exactly { IsLive (map string_bytes words.now) → (image : List ℕ) (first : ℕ) → V.bytes volume.old ≡ Some image → IsNotOurs image first → EndsAs (Status.NotOurs first) result }
     ensures damaged { (damage : Damage) → result ≡ Status.Damaged damage → Explains (V.bytes volume.old) (LogFault.Damaged damage) }
     ensures damaged_exactly { IsLive (map string_bytes words.now) → (image : List ℕ) (damage : Damage) → V.bytes volume.old ≡ Some image → Reads image (born.Damaged damage) → EndsAs (Status.Damaged damage) result }
-    // Nothing is read or written then, and the volume is as it was. So it is where its bytes are read so, whatever the status is.
+    // Nothing is read or written then, and the volume is as it was, its images too. So it is where its bytes are read so, whatever the
+    // status is.
     ensures refused_alone { IsRefusal result → (ends.new ≡ ends.old) × (source.new ≡ source.old) × (sink.new ≡ sink.old) × (V.bytes volume.new ≡ V.bytes volume.old) }
     ensures unread { IfSome (V.bytes volume.old) (λ image. (reading : Reading) → Reads image reading → IsNoLog reading
         → (ends.new ≡ ends.old) × (source.new ≡ source.old) × (sink.new ≡ sink.old) × (result ≢ Status.VolumeFault → V.bytes volume.new ≡ V.bytes volume.old)) }
+    ensures unread_images { IfSome (V.bytes volume.old) (λ image. (reading : Reading) → Reads image reading → IsNoLog reading
+        → IsSynced V.Volume image volume.old volume.new ⊎ IsUnsynced V.Volume volume.old volume.new) }
     ensures born_never { result ≢ Status.Born }
     ensures missing_never { (asked seen : ℕ) → result ≢ Status.Missing asked seen }
     ensures told { IsSome (V.bytes volume.old) → IsSome (V.bytes volume.new) }

@@ -1,13 +1,14 @@
 use Rattle.std.specs.Prelude.{vec_len}
-use Rattle.std.proofs.Common.{◌≡◌, ◌∙◌, ◌⊎◌, List, [], Err, is_some, inl, inr, refl, ap, sym, subst, rules}
+use Rattle.std.proofs.Common.{◌≡◌, ◌∙◌, ◌⊎◌, ℕ, List, [], Err, is_some, inl, inr, refl, ap, sym, subst, rules}
 use Rattle.sx_layout.specs.Born as born
 use Rattle.sx_layout.specs.Born.{Reading}
 use Rattle.sx_log.specs.declared.fault.LogFault.{LogFault}
 use Rattle.sx_log.specs.declared.fault.LogFault.TheVariants as faults
+use Rattle.sx_outside.specs.Faults.{Rose}
 use Rattle.sx_run.specs.Run.{started}
 use Rattle.sx_shell.proofs.EndFaults.{ends_same}
 use Rattle.sx_shell.proofs.Living.{all_kept, at_told, begins, ended_run, has_still, kept_run, nothing_more, ready_first, refused_run, run_around}
-use Rattle.sx_shell.proofs.Refusing.{complete_unopened, damaged_of, ends_as, unopened_kept, unopened_run}
+use Rattle.sx_shell.proofs.Refusing.{complete_unopened, damaged_of, ends_as, unopened_kept, unopened_run, same_at, unread, unread_never}
 use Rattle.sx_shell.specs.Live.{EndsAs, HasRun, IsKept}
 use Rattle.sx_shell.specs.Medium.{AllTell, medium}
 use Rattle.sx_shell.specs.Outcome.{Told}
@@ -25,7 +26,7 @@ returns-then-is_none-clause-run g c = λ image input before birth commits told s
   left,
   nothing_more before (g.K.Sink.written c.args.sink.now) written,
   refused_run (medium birth g.V.Volume g.V.Spot.Spot g.V.End.ReadEnd) c.args.volume.now c.args.volume.now image (g.met.V.Volume.counts_now c.args.volume.now) c.args.ends.now.items commits (g.C.Clock.moments c.args.clock.now) input status.Usage
-      (sym c.args.ends.now.ok.0 ∙ c.requires) stands tt (refl, refl) (λ fine. told) (inr (record { no_sync = λ t had. had; up_to = g.met.V.Volume.only_now c.args.volume.now })),
+      (sym c.args.ends.now.ok.0 ∙ c.requires) stands tt (refl, refl, refl) (λ fine. told) (inr (record { no_sync = λ t had. had; up_to = g.met.V.Volume.only_now c.args.volume.now })),
 )
 
 pub returns-then-is_none-clause-end_faults : goal.returns-then-is_none-clause-end_faults
@@ -93,7 +94,8 @@ returns-clause-run g c = λ image input before birth commits told stands tell le
     let has_run : HasRun (medium birth g.V.Volume g.V.Spot.Spot g.V.End.ReadEnd) (record { old = c.args.volume.now; new = c.drive-status.new.desk.writer.volume.now; ends = c.deref_mut.result.now; ends_after = c.drive-status.new.ends }) (started commits moments) said c.drive-status.result =
     ended_run (medium birth g.V.Volume g.V.Spot.Spot g.V.End.ReadEnd) c.args.volume.now mid c.drive-status.new.desk.writer.volume.now image synced c.drive-status.ensures.continues.time (g.met.V.Volume.counts_now c.drive-status.new.desk.writer.volume.now)
     c.deref_mut.result.now c.drive-status.new.ends commits moments (g.C.Clock.moments c.drive-status.new.clock) input before (g.S.Source.left c.drive-status.new.source) (g.K.Sink.written c.drive-status.new.sink)
-    c.drive-status.new.desk.writer.ledger c.drive-status.new.desk.revisions c.drive-status.result stands (c.drive-status.ensures.continues.same_birth ∙ shown.1) c.drive-status.ensures.ready.sound ended in (
+    c.drive-status.new.desk.writer.ledger c.drive-status.new.desk.revisions c.drive-status.result stands (c.drive-status.ensures.continues.same_birth ∙ shown.1) c.drive-status.ensures.ready.sound
+    (λ some. subst (λ (n : ℕ). Rose n (g.V.Volume.faults c.drive-status.new.desk.writer.volume.now)) (c.in-Ok.ensures.no_fault (λ failed. cc failed)) (c.drive-status.ensures.continues.cause c.in-Ok.ensures.writes some)) ended in (
       ended.rest,
       ended.out,
       ended.left_is,
@@ -119,3 +121,13 @@ returns-clause-not_ours_exactly g c = λ live image first told other. absurd (at
 
 pub returns-clause-damaged_exactly : goal.returns-clause-damaged_exactly
 returns-clause-damaged_exactly g c = λ live image damage told damaged. absurd (at_told _ (g.V.Volume.bytes c.args.volume.now) image told c.in-Ok.ensures.exactly (born.Damaged damage) damaged)
+
+pub returns-then-is_none-clause-unread_images : goal.returns-then-is_none-clause-unread_images
+returns-then-is_none-clause-unread_images g c =
+    let volume = c.args.volume.now in unread (g.V.Volume.bytes volume) _ (same_at _ (g.V.Volume.bytes volume) (λ image. inr (record { no_sync = λ t had. had; up_to = g.met.V.Volume.only_now volume })))
+
+pub returns-in-Err-clause-unread_images : goal.returns-in-Err-clause-unread_images
+returns-in-Err-clause-unread_images g c = unread (g.V.Volume.bytes c.args.volume.now) _ c.in-Err.ensures.synced_or_not
+
+pub returns-clause-unread_images : goal.returns-clause-unread_images
+returns-clause-unread_images g c = unread_never g.V.Spot.Spot (g.V.Volume.bytes c.args.volume.now) c.in-Ok.ledger _ c.in-Ok.ensures.exactly
