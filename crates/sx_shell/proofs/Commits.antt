@@ -25,7 +25,7 @@ use Rattle.sx_store.specs.Edits.{Edits, with_edit}
 use Rattle.sx_store.specs.Room.{room}
 use Rattle.sx_store.specs.Shows as store
 use Rattle.sx_store.specs.Shows.{birth_in, count_of, names_in, stage_of}
-use Rattle.sx_store.specs.Sound.{GrowsFrom, HasAll, HoldAll, IsSound, SameBut, SameDraft}
+use Rattle.sx_store.specs.Sound.{GrowsFrom, HasAll, HoldAll, IsSound, SameBut}
 use Rattle.sx_store.specs.declared.fault.CommitFault.{CommitFault}
 use Rattle.sx_store.specs.declared.fault.CommitFault.TheVariants as faults
 use Rattle.sx_store.specs.declared.fault.Committed.{Committed}
@@ -44,6 +44,11 @@ use Rattle.sx_volume.specs.declared.spot.Spot as spot
 use Rattle.sx_volume.specs.declared.volume.Volume as volume
 use Rattle.sx_whole.specs.Stands.{Stands}
 
+-- but for its draft the ledger is the same
+pub but_draft : {S : Type 0} (X : Type 0) (before after : Ledger S) (result : Result Committed CommitFault) → IfErr result (λ fault. IsNoFailure fault → SameBut before after × X) → IfErr result (λ fault. IsNoFailure fault → SameBut before after)
+but_draft X before after (Ok done) same = tt
+but_draft X before after (Err fault) same = λ none. (same none).0
+
 -- what a commit of the writer says of itself, whatever the volume stands for
 pub record Ends {V S E : Type 0} (g : volume.Ghosts V S E) (s : spot.Ghosts S) (old new : V) (before after : Ledger S) (result : Result Committed CommitFault) : Type 0 where
   pub sound : IsSound g s new after
@@ -51,7 +56,7 @@ pub record Ends {V S E : Type 0} (g : volume.Ghosts V S E) (s : spot.Ghosts S) (
   pub fails : (stage : ℕ) → IsErrOf result (faults.Failed stage) → stage_of after ≡ Some stage
   pub stopped : (stage : ℕ) → IsErrOf result (faults.Stopped stage) ↔ (stage_of before ≡ Some stage)
   pub same_stopped : (stage : ℕ) → stage_of before ≡ Some stage → after ≡ before
-  pub same_ledger : IfErr result (λ fault. IsNoFailure fault → SameBut before after × SameDraft before after)
+  pub same_ledger : IfErr result (λ fault. IsNoFailure fault → SameBut before after)
   pub same_volume : (stage : ℕ) → stage_of before ≡ Some stage → new ≡ old
   pub same_birth : birth_in after ≡ birth_in before
   pub grows : IfSome (g.bytes old) (λ _. GrowsFrom s before after)
@@ -74,8 +79,8 @@ module _ {V S E : Type 0} (g : volume.Ghosts V S E) (s : spot.Ghosts S) (old new
   no_fault_of (Err faults.OutOfMemory) ends going = ends.no_fault (λ other is. cc is)
 
   -- the writer goes on after what is no failure
-  still_going : SameBut before after × SameDraft before after → stage_of before ≡ None → IsSome (stage_of after) → ⊥
-  still_going same going some = not_some (stage_of after) (same.0.stage ∙ going) some
+  still_going : SameBut before after → stage_of before ≡ None → IsSome (stage_of after) → ⊥
+  still_going same going some = not_some (stage_of after) (same.stage ∙ going) some
 
   cause_of : (result : Result Committed CommitFault) → Ends g s old new before after result → stage_of before ≡ None → IsSome (stage_of after) → Rose (g.faults old) (g.faults new)
   cause_of (Ok done) ends going some = absurd (not_some (stage_of after) ends.goes_on some)

@@ -157,7 +157,7 @@ impl<V: Volume> Desk<'_, V> {
     {
         let revision = self.revisions[client as usize];
         let end = &mut ends[client as usize];
-        asked_said(self.writer.answer(alloc, end, revision, query))
+        asked_said(self.writer.ledger.answer(alloc, end, revision, query))
     }
 }
 

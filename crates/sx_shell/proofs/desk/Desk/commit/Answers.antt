@@ -1,7 +1,7 @@
 use Rattle.std.proofs.Common.{arith, refl, subst, get_or, ap}
 use Rattle.sx_layout.specs.Birth.{Birth}
 use Rattle.sx_run.specs.Run.{next_commit}
-use Rattle.sx_shell.proofs.Commits.{Ends, OnlyReads, commit_answered, commit_continues, ends_on}
+use Rattle.sx_shell.proofs.Commits.{Ends, OnlyReads, but_draft, commit_answered, commit_continues, ends_on}
 use Rattle.sx_shell.proofs.EndFaults.{tells_at}
 use Rattle.sx_shell.proofs.Still.{when_some}
 use Rattle.sx_shell.specs.Medium.{medium}
@@ -18,7 +18,7 @@ ends_of g c = record {
   fails = c.commit.ensures.fails;
   stopped = c.commit.ensures.stopped;
   same_stopped = c.commit.ensures.same_stopped;
-  same_ledger = c.commit.ensures.same_ledger;
+  same_ledger = but_draft _ c.args.self.now.writer.ledger c.commit.new.self.ledger c.commit.result c.commit.ensures.same_ledger;
   same_volume = c.commit.ensures.same_volume;
   same_birth = c.commit.ensures.same_birth;
   grows = c.commit.ensures.grows;
