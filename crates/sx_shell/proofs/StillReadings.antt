@@ -1,29 +1,39 @@
 -- What a reading of the volume's bytes is due to end with.
 use Rattle.std.proofs.Common.{◌≡◌, ◌≢◌, ◌∙◌, ◌⊎◌, ◌+◌, inl, inr, ℕ, suc, List, [], ◌∷◌, ◌++◌, length, Option, None, Some, IfSome, Err, Ok, refl, ap, sym, subst, arith, length-append}
+use Rattle.std.specs.Prelude.{◌≤◌, IsErrOf, IsSome}
+use Rattle.sx_bytes.specs.declared.damage.Damage.{Damage}
+use Rattle.sx_cursor.specs.Damage.{broken_link}
 use Rattle.sx_layout.proofs.BornReadings.{is_born}
 use Rattle.sx_layout.specs.Birth.{Birth, IsBorn}
 use Rattle.sx_layout.specs.Born as born
 use Rattle.sx_layout.specs.Born.{Reading}
 use Rattle.sx_layout.specs.FrameGroup.{FrameGroup, behind_gates, group_size}
 use Rattle.sx_log.specs.Creating as log
-use Rattle.sx_log.specs.Creating.{IsOther}
+use Rattle.sx_log.specs.Calls.{IsSynced, IsSyncedOrNot, IsUnsynced}
+use Rattle.sx_log.specs.Creating.{IsOther, IsTaken}
 use Rattle.sx_log.specs.Kept.{first_place, rows_from}
 use Rattle.sx_log.specs.declared.fault.LogFault.{LogFault}
 use Rattle.sx_log.specs.declared.fault.LogFault.TheVariants as logs
 use Rattle.sx_model.specs.Commit.{Commit}
 use Rattle.sx_model.specs.Edit.{after}
 use Rattle.sx_model.specs.State.{State, empty_document}
+use Rattle.sx_outside.specs.Faults.{Rose}
 use Rattle.sx_run.specs.Run.{Book}
 use Rattle.sx_shell.specs.Still as still
 use Rattle.sx_shell.specs.Code.{status_of}
 use Rattle.sx_shell.specs.Still.{ChecksReading, IsShown, ShowsReading}
 use Rattle.sx_shell.specs.declared.status.Status.{Status}
-use Rattle.sx_shell.specs.declared.status.Status.TheVariants.{Done, VolumeFault, OutOfMemory}
+use Rattle.sx_shell.specs.declared.status.Status.TheVariants.{Done, VolumeFault, Damaged, OutOfMemory}
+use Rattle.sx_store.specs.Damage.{HasNoNode, IsQueryDamage, root_at}
 use Rattle.sx_store.specs.Opening.{IsGiven}
 use Rattle.sx_store.specs.Shows.{Shows, count_of}
 use Rattle.sx_store.specs.Sound.{IsLedgerOf}
 use Rattle.sx_store.specs.declared.ledger.Ledger.{Ledger}
+use Rattle.sx_tree.specs.declared.query.Query.TheVariants.{Text}
+use Rattle.sx_view.specs.declared.fault.QueryFault.{QueryFault}
+use Rattle.sx_view.specs.declared.fault.QueryFault.TheVariants as questions
 use Rattle.sx_volume.specs.declared.spot.Spot.{Ghosts}
+use Rattle.sx_volume.specs.declared.volume.Volume as volume
 use Rattle.sx_whole.specs.Stands.{ShowFrom, Stands}
 
 -- a volume that stands with a birth is born
@@ -139,3 +149,61 @@ empty-not P A B C (Some image) fault status is empty = λ un. elim (empty un) [
   | inl since ↦ inl since
   | inr none ↦ inr (λ done. never-done fault (sym is ∙ done), none.1)
 ]
+
+-- what was there stays
+pub taken-ok : {V S E : Type 0} (g : volume.Ghosts V S E) (old new : V) (value : Unit {0}) (bytes : Option (List ℕ))
+    → IfSome bytes (λ image. IsTaken image → (IsErrOf {T = Unit {0}} (Ok value) logs.Failed → ⊥) → g.bytes new ≡ g.bytes old)
+    → IfSome bytes (λ image. IsTaken image → IsSynced g image old new ⊎ IsUnsynced g old new) → IfSome bytes (λ image. IsTaken image → still.IsLeft g image old new Done)
+taken-ok g old new value None same images = tt
+taken-ok g old new value (Some image) same images = λ taken. record { same = λ fine. same taken (λ failed. cc failed); images = images taken }
+
+pub taken-err : {V S E : Type 0} (g : volume.Ghosts V S E) (old new : V) (fault : LogFault) (status : Status) (bytes : Option (List ℕ)) → status ≡ status_of fault
+    → IfSome bytes (λ image. IsTaken image → (IsErrOf {T = Unit {0}} (Err fault) logs.Failed → ⊥) → g.bytes new ≡ g.bytes old)
+    → IfSome bytes (λ image. IsTaken image → IsSynced g image old new ⊎ IsUnsynced g old new) → IfSome bytes (λ image. IsTaken image → still.IsLeft g image old new status)
+taken-err g old new fault status None is same images = tt
+taken-err g old new fault status (Some image) is same images = λ taken. record {
+  same = λ fine. same taken (λ failed. let same_fault : fault ≡ logs.Failed = cc failed in fine (is ∙ ap status_of same_fault));
+  images = images taken;
+}
+
+-- nothing was called
+pub taken-still : {V S E : Type 0} (g : volume.Ghosts V S E) (volume : V) (status : Status) (bytes : Option (List ℕ))
+    → ((c : List ℕ) → g.was_image volume (g.moment volume) c → g.is_image volume c) → IfSome bytes (λ image. IsTaken image → still.IsLeft g image volume volume status)
+taken-still g volume status None only = tt
+taken-still g volume status (Some image) only = λ taken. record { same = λ fine. refl; images = inr (record { no_sync = λ t had. had; up_to = only }) }
+
+-- what an opening leaves that gives no ledger
+pub leaves-err : {V S E : Type 0} (g : volume.Ghosts V S E) (old new : V) (fault : LogFault) (status : Status) → status ≡ status_of fault
+    → (fault ≢ logs.Failed → g.bytes new ≡ g.bytes old) → (fault ≡ logs.Failed → Rose (g.faults old) (g.faults new)) → (IsSome (g.bytes old) → IsSome (g.bytes new)) → IsSyncedOrNot g old new
+    → still.LeavesBytes g old new status
+leaves-err g old new fault status is same cause told images = record {
+  same = λ fine. same (λ failed. fine (is ∙ ap status_of failed));
+  calm = λ none. by fault same cause none;
+  told = told;
+  synced_or_not = images;
+  synced = λ done. absurd (never-done fault (sym is ∙ done));
+}
+  where
+    by : (f : LogFault) → (f ≢ logs.Failed → g.bytes new ≡ g.bytes old) → (f ≡ logs.Failed → Rose (g.faults old) (g.faults new)) → (Rose (g.faults old) (g.faults new) → ⊥) → g.bytes new ≡ g.bytes old
+    by logs.Failed same cause none = absurd (none (cause refl))
+    by (logs.NotOurs first) same cause none = same (λ failed. cc failed)
+    by logs.Unborn same cause none = same (λ failed. cc failed)
+    by logs.Born same cause none = same (λ failed. cc failed)
+    by (logs.Damaged damage) same cause none = same (λ failed. cc failed)
+    by logs.OutOfMemory same cause none = same (λ failed. cc failed)
+
+-- what a text that was not answered tells of the revision
+pub shown-damage : {S : Type 0} (g : Ghosts S) (tells : Type 0) (ledger : Ledger S) (r : ℕ) (damage : Damage) (fault : QueryFault) → r ≤ count_of ledger
+    → ((d : Damage) → fault ≡ questions.Damaged d → IsQueryDamage g tells ledger (root_at ledger r) (Text 0) d)
+    → ((node : ℕ) → fault ≡ questions.NoNode node → (0 ≡ node) × HasNoNode g tells ledger (root_at ledger r) node)
+    → ((path : ℕ) → fault ≡ questions.NoPath path → ⊥) → still.unanswered_status fault ≡ Damaged damage → still.IsShownDamage g tells r damage ledger
+shown-damage g tells ledger r damage (questions.Missing asked seen) there broken absent path is = absurd (cc is)
+shown-damage g tells ledger r damage (questions.NoNode node) there broken absent path is =
+    let zero_is = (absent node refl).0 in
+    let same : broken_link 0 node ≡ damage = cc is in
+    (there, inr (subst (λ (n : ℕ). HasNoNode g tells ledger (root_at ledger r) n) (sym zero_is) (absent node refl).1, sym same ∙ ap (broken_link 0) (sym zero_is)))
+shown-damage g tells ledger r damage (questions.NoPath other) there broken absent path is = absurd (path other refl)
+shown-damage g tells ledger r damage questions.Failed there broken absent path is = absurd (cc is)
+shown-damage g tells ledger r damage (questions.Damaged d) there broken absent path is =
+    let same : d ≡ damage = cc is in (there, inl (subst (λ (e : Damage). IsQueryDamage g tells ledger (root_at ledger r) (Text 0) e) same (broken d refl)))
+shown-damage g tells ledger r damage questions.OutOfMemory there broken absent path is = absurd (cc is)

@@ -8,9 +8,11 @@ use Rattle.sx_layout.specs.Born as born
 use Rattle.sx_layout.specs.Born.{Reading}
 use Rattle.sx_layout.specs.FrameGroup.{FrameGroup}
 use Rattle.sx_log.specs.Kept.{first_place, rows_from}
-use Rattle.sx_log.specs.Opening.{Explains, IsSynced, IsSyncedOrNot}
+use Rattle.sx_log.specs.Calls.{IsSynced, IsSyncedOrNot, IsUnsynced}
+use Rattle.sx_log.specs.Opening.{Explains}
 use Rattle.sx_log.specs.declared.fault.LogFault.TheVariants as faults
 use Rattle.sx_model.specs.Commit.{Commit, state_of}
+use Rattle.sx_outside.specs.Faults.{Rose}
 use Rattle.sx_model.specs.TreeText.{document_text}
 use Rattle.sx_reader.specs.Asked.{BreaksAsking, ExplainsSome, asked_in}
 use Rattle.sx_reader.specs.Cells.{Placed, frames_of, placed_in}
@@ -18,7 +20,7 @@ use Rattle.sx_shell.specs.declared.command.Wanted.{Wanted}
 use Rattle.sx_shell.specs.declared.command.Wanted.TheVariants.{Live, Create, Show, Check}
 use Rattle.sx_shell.specs.declared.status.Status.{Status}
 use Rattle.sx_shell.specs.declared.status.Status.TheVariants.{Done, Usage, ReadFault, WriteFault, VolumeFault, Damaged, NotOurs, Unborn, Born, Missing, OutOfMemory}
-use Rattle.sx_store.specs.Damage.{IsQueryDamage, root_at}
+use Rattle.sx_store.specs.Damage.{HasNoNode, IsQueryDamage, root_at}
 use Rattle.sx_store.specs.Shows.{count_of}
 use Rattle.sx_store.specs.Sound.{IsReadOf, IsWhole}
 use Rattle.sx_store.specs.declared.ledger.Ledger.{Ledger}
@@ -104,6 +106,12 @@ IsOfCreate OutOfMemory = Unit {0}
 abbrev pub IsNotMade : Status → Type 0
 IsNotMade status = (status ≡ Born) ⊎ ((first : ℕ) × (status ≡ NotOurs first))
 
+-- The bytes that were there stay, unless a call of the volume failed, and a crash leaves them and nothing else from the first sync that
+-- succeeded on; before that what it could leave at the start.
+pub record IsLeft {V S E : Type 0} (g : volume.Ghosts V S E) (image : List ℕ) (old new : V) (status : Status) : Type 0 where
+  pub same : status ≢ VolumeFault → g.bytes new ≡ g.bytes old
+  pub images : IsSynced g image old new ⊎ IsUnsynced g old new
+
 -- ---- what is written
 
 -- What was written is the line, or where the sink failed a front of it. In every other case nothing was.
@@ -181,10 +189,11 @@ IsUndamaged status = (damage : Damage) → status ≢ Damaged damage
 
 -- ---- volumes that are read
 
--- What a call that reads leaves of the volume: its bytes, unless it failed; and a crash leaves what it could leave at the start, or from
+-- What a call that reads leaves of the volume: its bytes, unless the volume failed, also where its end did; and a crash leaves what it could leave at the start, or from
 -- the first sync's success on these bytes and nothing else.
 pub record LeavesBytes {V S E : Type 0} (g : volume.Ghosts V S E) (old new : V) (status : Status) : Type 0 where
   pub same : status ≢ VolumeFault → g.bytes new ≡ g.bytes old
+  pub calm : (Rose (g.faults old) (g.faults new) → ⊥) → g.bytes new ≡ g.bytes old
   pub told : IsSome (g.bytes old) → IsSome (g.bytes new)
   pub synced_or_not : IsSyncedOrNot g old new
   pub synced : status ≡ Done → IfSome (g.bytes old) (λ image. IsSynced g image old new)
@@ -210,10 +219,11 @@ pub record IsOfLog {S : Type 0} (g : spot.Ghosts S) (bytes : Option (List ℕ)) 
   pub read : IfSome bytes (λ image. IsReadOf g image ledger)
   pub holds : cause ledger
 
--- What damages a revision that is shown: its frame, or its records; or they have none of the Document.
+-- What damages a revision that is shown: its frame, or its records; or they have none of the Document, which is rule 23 from 0 to 0.
 abbrev pub IsShownDamage : {S : Type 0} → spot.Ghosts S → Type 0 → ℕ → Damage → Ledger S → Type 0
 IsShownDamage g tells r damage ledger =
-    (r ≤ count_of ledger) × (IsQueryDamage g tells ledger (root_at ledger r) (Text 0) damage ⊎ (damage ≡ broken_link 0 0))
+    let root = root_at ledger r in
+    (r ≤ count_of ledger) × (IsQueryDamage g tells ledger root (Text 0) damage ⊎ (HasNoNode g tells ledger root 0 × (damage ≡ broken_link 0 0)))
 
 -- What damages frames that are checked: one of them.
 abbrev pub IsCheckedDamage : {S : Type 0} → spot.Ghosts S → Type 0 → Damage → Ledger S → Type 0

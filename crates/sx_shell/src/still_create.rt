@@ -1,10 +1,10 @@
 //! A volume is made.
 ghost use Rattle.std.specs.Prelude.{◌≡◌, ◌≢◌, ◌≤◌, ◌⊎◌, List, ℕ, Some, IfSome};
 ghost use Rattle.sx_layout.specs.Birth.{IsUnborn};
-ghost use Rattle.sx_log.specs.Calls.{IsSettled};
-ghost use Rattle.sx_log.specs.Creating.{CanBeBorn, IsEmptySince, IsUnsynced, Tells, birth_of, newborn};
+ghost use Rattle.sx_log.specs.Calls.{IsSettled, IsUnsynced};
+ghost use Rattle.sx_log.specs.Creating.{CanBeBorn, IsEmptySince, IsTaken, Tells, birth_of, newborn};
 ghost use Rattle.sx_outside.specs.Faults.{Rose};
-ghost use Rattle.sx_shell.specs.Still.{IsMade, IsNotMade, IsOfCreate};
+ghost use Rattle.sx_shell.specs.Still.{IsLeft, IsMade, IsNotMade, IsOfCreate};
 
 use crate::Status;
 use crate::status::status_of;
@@ -22,9 +22,8 @@ pub(crate) fn make<V: Volume>(alloc: Global, volume: &mut V, birth: &Birth) -> S
         × IsSettled V.Volume volume.new }
     ensures kept { IsNotMade result → V.bytes volume.new ≡ V.bytes volume.old }
     ensures empty { IfSome (V.bytes volume.old) (λ image. IsUnborn image
-        → IsEmptySince (V.moment volume.old) (V.moment volume.new) (V.is_image volume.old) (V.was_image volume.new) (V.synced volume.new)
-        ⊎ ((result ≢ Status.Done)
-        × IsUnsynced (V.moment volume.old) (V.is_image volume.old) (V.was_image volume.new) (V.synced volume.old) (V.synced volume.new))) }
+        → IsEmptySince V.Volume volume.old volume.new ⊎ ((result ≢ Status.Done) × IsUnsynced V.Volume volume.old volume.new)) }
+    ensures taken { IfSome (V.bytes volume.old) (λ image. IsTaken image → IsLeft V.Volume image volume.old volume.new result) }
     ensures cause { result ≡ Status.VolumeFault → Rose (V.faults volume.old) (V.faults volume.new) }
     ensures never_falls { V.faults volume.old ≤ V.faults volume.new }
 {

@@ -4,11 +4,11 @@ ghost use Rattle.std.specs.String.{string_bytes};
 ghost use Rattle.sx_bytes.specs.declared.damage.Damage.{Damage};
 ghost use Rattle.sx_layout.specs.Birth.{Birth, IsNotOurs, IsUnborn};
 ghost use Rattle.sx_layout.specs.Born.{Reading, Reads};
-ghost use Rattle.sx_log.specs.Calls.{IsSettled};
-ghost use Rattle.sx_log.specs.Creating.{IsEmptySince, IsUnsynced, Tells, newborn};
+ghost use Rattle.sx_log.specs.Calls.{IsSettled, IsUnsynced};
+ghost use Rattle.sx_log.specs.Creating.{IsEmptySince, IsTaken, Tells, newborn};
 ghost use Rattle.sx_model.specs.Commit.{Commit};
 ghost use Rattle.sx_outside.specs.Faults.{Rose};
-ghost use Rattle.sx_shell.specs.Still.{ChecksReading, IsChecked, IsCheckedDamage, IsDamage, IsMade, IsNotMade};
+ghost use Rattle.sx_shell.specs.Still.{ChecksReading, IsChecked, IsCheckedDamage, IsDamage, IsLeft, IsMade, IsNotMade};
 ghost use Rattle.sx_shell.specs.Still.{IsOfCreate, IsShown, IsShownDamage};
 ghost use Rattle.sx_shell.specs.Still.{IsUndamaged, IsUnwritten, LeavesBytes, ShowsReading, WantsNone, WantsReading};
 ghost use Rattle.sx_shell.specs.Still.{Writes, checked_line, due_status, shown_line};
@@ -56,9 +56,10 @@ pub fn run_still<V: Volume, K: Sink>(
     ensures empty { (file from to : List ℕ) (window : ℕ)
         → wanted (map string_bytes words.now) ≡ Some (Wanted.Create file window from to)
         → IfSome (V.bytes volume.old) (λ image. IsUnborn image
-        → IsEmptySince (V.moment volume.old) (V.moment volume.new) (V.is_image volume.old) (V.was_image volume.new) (V.synced volume.new)
-        ⊎ ((result ≢ Status.Done)
-        × IsUnsynced (V.moment volume.old) (V.is_image volume.old) (V.was_image volume.new) (V.synced volume.old) (V.synced volume.new))) }
+        → IsEmptySince V.Volume volume.old volume.new ⊎ ((result ≢ Status.Done) × IsUnsynced V.Volume volume.old volume.new)) }
+    ensures taken { (file from to : List ℕ) (window : ℕ)
+        → wanted (map string_bytes words.now) ≡ Some (Wanted.Create file window from to)
+        → IfSome (V.bytes volume.old) (λ image. IsTaken image → IsLeft V.Volume image volume.old volume.new result) }
     ensures not_made { (file from to : List ℕ) (window : ℕ)
         → wanted (map string_bytes words.now) ≡ Some (Wanted.Create file window from to)
         → IsNotMade result → V.bytes volume.new ≡ V.bytes volume.old }

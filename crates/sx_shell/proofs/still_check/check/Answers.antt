@@ -3,7 +3,7 @@ use Rattle.sx_layout.specs.Born.{Reading, Reads}
 use Rattle.sx_run.specs.Run.{book_of}
 use Rattle.sx_shell.proofs.StillChecks.{checks-groups, frame-damage, no-damage, written-groups}
 use Rattle.sx_shell.proofs.StillEnds.{at_told, checked-ends, end-is, of_err, of_ok, written-checked, written-line, written-undamaged}
-use Rattle.sx_shell.proofs.StillReadings.{checks-log, other-end}
+use Rattle.sx_shell.proofs.StillReadings.{checks-log, leaves-err, other-end}
 use Rattle.sx_shell.specs.Still.{ChecksGroups, IsChecked, IsCheckedDamage, IsUndamaged, IsUnwritten, checked_line}
 use Rattle.sx_shell.specs.declared.status.Status.TheVariants.{Damaged}
 use Rattle.std.proofs.Common.{◌≡◌, List, ℕ, length}
@@ -59,3 +59,8 @@ returns-in-Err-clause-checked g c = λ image birth commits told stands tells.
       other-end IsChecked c.in-Err.fault c.status_of.result c.status_of.ensures other tt tt,
       other-end IsUndamaged c.in-Err.fault c.status_of.result c.status_of.ensures other (λ damage same. absurd cc) (λ damage same. absurd cc),
     )
+
+pub returns-in-Err-clause-kept : goal.returns-in-Err-clause-kept
+returns-in-Err-clause-kept g c =
+    leaves-err g.V.Volume c.args.volume.now c.open_one.new.volume c.in-Err.fault c.status_of.result c.status_of.ensures c.in-Err.ensures.nothing_done (λ failed. c.in-Err.ensures.cause (ap Err failed))
+    c.in-Err.ensures.told c.in-Err.ensures.synced_or_not

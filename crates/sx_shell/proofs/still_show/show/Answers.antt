@@ -2,7 +2,7 @@ use Rattle.std.proofs.Common.{◌≡◌, ◌∙◌, ◌≤◌, ap, subst, Err, i
 use Rattle.sx_layout.specs.Born.{Reading, Reads}
 use Rattle.sx_run.specs.Run.{book_of}
 use Rattle.sx_shell.proofs.StillEnds.{at_told, end-is, of_err, of_ok, shown-ends, written-line, written-shown, written-undamaged}
-use Rattle.sx_shell.proofs.StillReadings.{count-commits, other-end, shows-log}
+use Rattle.sx_shell.proofs.StillReadings.{count-commits, leaves-err, other-end, shows-log}
 use Rattle.sx_shell.specs.Still.{IsShown, IsShownDamage, IsUndamaged, shown_line}
 use Rattle.sx_shell.specs.declared.status.Status.TheVariants.{Damaged}
 use Rattle.sx_store.specs.Opening.{IsGiven}
@@ -59,3 +59,8 @@ returns-in-Err-clause-shown g c = λ image birth commits told stands tells.
       other-end (IsShown (length commits) c.args.revision) c.in-Err.fault c.status_of.result c.status_of.ensures other tt tt,
       other-end IsUndamaged c.in-Err.fault c.status_of.result c.status_of.ensures other (λ damage same. absurd cc) (λ damage same. absurd cc),
     )
+
+pub returns-in-Err-clause-kept : goal.returns-in-Err-clause-kept
+returns-in-Err-clause-kept g c =
+    leaves-err g.V.Volume c.args.volume.now c.open_one.new.volume c.in-Err.fault c.status_of.result c.status_of.ensures c.in-Err.ensures.nothing_done (λ failed. c.in-Err.ensures.cause (ap Err failed))
+    c.in-Err.ensures.told c.in-Err.ensures.synced_or_not
