@@ -1,0 +1,4 @@
+pub mod ByUse
+pub mod PrivateUse
+pub mod ResidentList
+pub mod OfferEnds

@@ -1,0 +1,28 @@
+-- How an offer of a frame to a list of residents ends.
+use Rattle.std.specs.Prelude.{ℕ, ◌≡◌, ◌<◌, ◌⊎◌, IsSome, None, Option, Some, length, nat_eq, option_map}
+use Rattle.std.specs.Map.{lookup}
+use Rattle.lru.specs.LruCache.{last_entry}
+use Rattle.sx_cell.specs.PageName.{PageName}
+use Rattle.sx_cache.specs.ByUse.{with_newest}
+use Rattle.sx_cache.specs.ResidentList.{ResidentList}
+use Rattle.sx_cache.specs.declared.offer.Offer.{Offer}
+use Rattle.sx_cache.specs.declared.offer.Offer.TheVariants.{Evicted, Kept, KeptOut}
+
+module _ {S : Type 0} (k : ℕ) (old : ResidentList S) where
+  -- frame k is there, or there is room for it
+  abbrev pub HasRoom : Type 0
+  HasRoom = IsSome (lookup (nat_eq k) old.list) ⊎ (length old.list < old.places)
+
+  -- frame k is not there, each place is taken, and e is the number of the eldest
+  abbrev pub IsFull : ℕ → Type 0
+  IsFull e = (lookup (nat_eq k) old.list ≡ None) × (length old.list ≡ old.places) × (option_map (λ x. x.0) (last_entry old.list) ≡ Some e)
+
+  -- frame k is the newest, and the others follow as far as there are places
+  abbrev pub IsNewest : PageName S → ResidentList S → Type 0
+  IsNewest cell new = new ≡ record old { list = with_newest old.places (nat_eq k) k cell old.list }
+
+-- By cases. Which of the last two comes is free, since whether a cell was emptied is.
+abbrev pub OfferEnds : {S : Type 0} → ℕ → PageName S → Offer → ResidentList S → ResidentList S → Type 0
+OfferEnds k cell Kept old new = HasRoom k old × IsNewest k old cell new
+OfferEnds k cell (Evicted e) old new = IsFull k old e × IsNewest k old cell new
+OfferEnds k cell (KeptOut e) old new = IsFull k old e × (new ≡ old)
