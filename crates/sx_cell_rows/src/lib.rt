@@ -1,0 +1,14 @@
+//! Cells shared by threads, and caches whose order was worked out by hand. The crate has tests, and one look-up by its clauses.
+#![tactic(auto)]
+
+#[cfg(test)]
+mod cells;
+#[cfg(test)]
+mod leaves;
+pub mod look_up;
+#[cfg(test)]
+mod page;
+#[cfg(test)]
+mod residents;
+#[cfg(test)]
+mod threads;
