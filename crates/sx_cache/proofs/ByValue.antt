@@ -1,5 +1,5 @@
 -- What the words on a cache's entries give on what the values share.
-use Rattle.std.proofs.Common.{◌≡◌, ℕ, zero, suc, ◌+◌, ◌-◌, ◌<◌, ◌≤◌, Bool, true, false, cond, List, [], ◌∷◌, map, option_map, is_some, IsSome, length, take, slice_get, nat_eq, ◌&&◌, ◌==◌, Option, Some, None, refl, sym, ap, ◌∙◌, subst, arith}
+use Rattle.std.proofs.Common.{◌≡◌, ℕ, zero, suc, ◌+◌, ◌-◌, ◌≤◌, Bool, true, false, cond, List, [], ◌∷◌, map, option_map, is_some, IsSome, length, take, slice_get, nat_eq, ◌&&◌, ◌==◌, Option, Some, None, refl, sym, ap, ◌∙◌, subst, arith}
 use Rattle.std.specs.Arc.{arc_value}
 use Rattle.std.specs.Map.{keys_of, lookup, lookup_entry, remove_entry}
 use Rattle.std.specs.Option.{option_map_or}
@@ -8,7 +8,7 @@ use Rattle.std.proofs.lemmas.Bool.{eqb-true}
 use Rattle.std.proofs.lemmas.List.{length-map, take-map}
 use Rattle.std.proofs.lemmas.Map.Made.{lookup-map_values}
 use Rattle.lru.proofs.Pairs.{lookup-lookup_entry}
-use Rattle.lru.specs.LruCache.{LruCache, last_entry, promoted, put_entries}
+use Rattle.lru.specs.LruCache.{LruCache, promoted, put_entries}
 use Rattle.sx_cache.specs.ByUse.{by_value, is_leaf, with_newest}
 
 module _ {K V Z : Type 0} where

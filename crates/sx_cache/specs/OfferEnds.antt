@@ -1,5 +1,5 @@
 -- How an offer of a frame to a list of residents ends.
-use Rattle.std.specs.Prelude.{ℕ, ◌≡◌, ◌<◌, ◌⊎◌, IsSome, None, Option, Some, length, nat_eq, option_map}
+use Rattle.std.specs.Prelude.{ℕ, ◌≡◌, ◌<◌, ◌⊎◌, IsSome, None, Some, length, nat_eq, option_map}
 use Rattle.std.specs.Map.{lookup}
 use Rattle.lru.specs.LruCache.{last_entry}
 use Rattle.sx_cell.specs.PageName.{PageName}

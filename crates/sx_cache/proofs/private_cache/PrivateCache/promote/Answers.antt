@@ -1,4 +1,4 @@
-use Rattle.std.proofs.Common.{refl, sym}
+use Rattle.std.proofs.Common.{sym}
 use Rattle.sx_cache.specs.ByUse.{is_leaf}
 use Rattle.sx_cache.proofs.ByValue.{is_some-lookup-by_value, promoted-by_value}
 use Rattle.sx_cache.proofs.private_cache.PrivateCache.promote.Goals as goal

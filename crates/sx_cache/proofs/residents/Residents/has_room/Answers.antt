@@ -1,5 +1,5 @@
 use Rattle.sx_cache.proofs.ByValue.{absent, is_some-lookup-by_value, length-by_value, there}
-use Rattle.std.proofs.Common.{nat_eq, ◌≤◌, inl, inr, sym, ◌∙◌, arith, ltb-false}
+use Rattle.std.proofs.Common.{nat_eq, ◌≤◌, inl, sym, ◌∙◌, arith, ltb-false}
 use Rattle.sx_cache.proofs.residents.Residents.has_room.Goals as goal
 
 pub returns-then-contains-clause-room : goal.returns-then-contains-clause-room
