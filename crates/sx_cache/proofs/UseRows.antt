@@ -45,10 +45,10 @@ pub a_frame_that_is_there_is_kept : OfferEnds 4 (name 41) Kept full (record { li
 a_frame_that_is_there_is_kept = (inl refl, refl)
 
 pub the_eldest_is_evicted : OfferEnds 7 (name 70) (Evicted 4) full (record { list = (7, name 70) ∷ (9, name 90) ∷ []; places = 2 })
-the_eldest_is_evicted = ((refl, refl, refl), refl)
+the_eldest_is_evicted = ((refl, refl), refl, refl)
 
 pub or_the_offered_one_is_kept_out : OfferEnds 7 (name 70) (KeptOut 4) full full
-or_the_offered_one_is_kept_out = ((refl, refl, refl), refl)
+or_the_offered_one_is_kept_out = ((refl, refl), refl, refl)
 
 pub kept_is_no_answer_where_full : OfferEnds 7 (name 70) Kept full (record { list = (7, name 70) ∷ (9, name 90) ∷ []; places = 2 }) → ⊥
 kept_is_no_answer_where_full h = elim h.0 [

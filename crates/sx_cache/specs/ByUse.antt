@@ -18,7 +18,7 @@ module _ {K V : Type 0} where
   abbrev pub by_value : {Z : Type 0} → List (K × Arc V Z) → List (K × V)
   by_value entries = map (λ e. (e.0, arc_value e.1)) entries
 
-  -- The value under the key goes first, and the entries of other keys follow as they stood, as far as there are places.
+  -- The value under the key goes first. The entries of other keys follow as they stood, as far as there are places.
   abbrev pub with_newest : ℕ → (K → Bool) → K → V → List (K × V) → List (K × V)
   with_newest places is_key key value list = (key, value) ∷ take (places - 1) (remove_entry is_key list)
 

@@ -8,14 +8,18 @@ use Rattle.sx_cache.specs.ResidentList.{ResidentList}
 use Rattle.sx_cache.specs.declared.offer.Offer.{Offer}
 use Rattle.sx_cache.specs.declared.offer.Offer.TheVariants.{Evicted, Kept, KeptOut}
 
+-- e is the number of the eldest
+abbrev pub IsEldest : {S : Type 0} → ResidentList S → ℕ → Type 0
+IsEldest old e = option_map (λ x. x.0) (last_entry old.list) ≡ Some e
+
 module _ {S : Type 0} (k : ℕ) (old : ResidentList S) where
   -- frame k is there, or there is room for it
   abbrev pub HasRoom : Type 0
   HasRoom = IsSome (lookup (nat_eq k) old.list) ⊎ (length old.list < old.places)
 
-  -- frame k is not there, each place is taken, and e is the number of the eldest
-  abbrev pub IsFull : ℕ → Type 0
-  IsFull e = (lookup (nat_eq k) old.list ≡ None) × (length old.list ≡ old.places) × (option_map (λ x. x.0) (last_entry old.list) ≡ Some e)
+  -- frame k is not there, and each place is taken
+  abbrev pub HasNoPlace : Type 0
+  HasNoPlace = (lookup (nat_eq k) old.list ≡ None) × (length old.list ≡ old.places)
 
   -- frame k is the newest, and the others follow as far as there are places
   abbrev pub IsNewest : PageName S → ResidentList S → Type 0
@@ -24,5 +28,5 @@ module _ {S : Type 0} (k : ℕ) (old : ResidentList S) where
 -- By cases. Which of the last two comes is free, since whether a cell was emptied is.
 abbrev pub OfferEnds : {S : Type 0} → ℕ → PageName S → Offer → ResidentList S → ResidentList S → Type 0
 OfferEnds k cell Kept old new = HasRoom k old × IsNewest k old cell new
-OfferEnds k cell (Evicted e) old new = IsFull k old e × IsNewest k old cell new
-OfferEnds k cell (KeptOut e) old new = IsFull k old e × (new ≡ old)
+OfferEnds k cell (Evicted e) old new = HasNoPlace k old × IsEldest old e × IsNewest k old cell new
+OfferEnds k cell (KeptOut e) old new = HasNoPlace k old × IsEldest old e × (new ≡ old)

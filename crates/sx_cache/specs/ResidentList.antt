@@ -10,4 +10,5 @@ pub record ResidentList (S : Type 0) : Type 0 where
 
 abbrev pub resident_list_code : {S : Type 0} → Coded S → Coded (ResidentList S)
 resident_list_code {S} spot =
-    code_by (List (ℕ × PageName S) × ℕ) (coded× (coded_list (coded× coded_ℕ (page_name_code spot))) coded_ℕ) (λ r. (r.list, r.places)) (λ p. record { list = p.0; places = p.1 }) (λ _. refl)
+    code_by (List (ℕ × PageName S) × ℕ) (coded× (coded_list (coded× coded_ℕ (page_name_code spot))) coded_ℕ) (λ r. (r.list, r.places))
+    (λ p. record { list = p.0; places = p.1 }) (λ _. refl)

@@ -63,10 +63,11 @@ impl<R: Drop> PrivateCache<R> {
         self.newest_if(there)
     }
 
-    /// Keeps the leaf as the newest, in place of one of its revision and number. Where there is no place, the eldest goes.
-    /// Errors: `AllocError` where memory runs out, and then nothing changes.
+    /// Keeps the leaf as the newest, in place of one of its revision and number.
+    /// Where there is no place, the eldest goes. Errors: `AllocError` where memory runs out, and then nothing changes.
     pub fn put(&mut self, r: u32, leaf: u32, value: Arc<Leaf<R>>) -> Result<(), AllocError>
-        ensures ok { OnOk result (self.new ≡ with_newest PRIVATE_LEAVES (is_leaf r leaf) (r, leaf) (arc_value value) self.old) }
+        ensures ok { let with_it = with_newest PRIVATE_LEAVES (is_leaf r leaf) (r, leaf) (arc_value value) self.old in
+            OnOk result (self.new ≡ with_it) }
         ensures err { OnErr result (self.new ≡ self.old) }
     {
         prove!(self.leaves.len() <= PRIVATE_LEAVES);
@@ -84,7 +85,8 @@ impl<R: Drop> PrivateCache<R> {
 
     // The newest leaf, where it is asked for.
     fn newest_if(&self, asked: bool) -> Option<&Arc<Leaf<R>>>
-        ensures asked { asked ≡ true → option_map (λ it. arc_value it.now) result ≡ option_map (λ e. e.1) (slice_get self.now 0) }
+        ensures asked { let newest = option_map (λ e. e.1) (slice_get self.now 0) in
+            asked ≡ true → option_map (λ it. arc_value it.now) result ≡ newest }
         ensures not_asked { asked ≡ false → result ≡ None }
     {
         if !asked {

@@ -1,10 +1,8 @@
 //! The frames whose cells stay filled.
-ghost use Rattle.std.specs.Prelude.{◌≡◌, ◌≤◌, ◌<◌, [], IfOk, None, OnErr, OnOk, Some, false, length, nat_eq, option_map, true};
+ghost use Rattle.std.specs.Prelude.{◌≡◌, ◌≤◌, ◌<◌, [], IfOk, OnErr, OnOk, false, length, nat_eq, true};
 ghost use Rattle.std.specs.Arc.{arc_value};
-ghost use Rattle.std.specs.Map.{lookup};
-ghost use Rattle.lru.specs.LruCache.{last_entry};
 ghost use Rattle.sx_cache.specs.ByUse.{IsByUse};
-ghost use Rattle.sx_cache.specs.OfferEnds.{HasRoom, IsNewest, OfferEnds};
+ghost use Rattle.sx_cache.specs.OfferEnds.{HasNoPlace, HasRoom, IsEldest, IsNewest, OfferEnds};
 
 use crate::{MOST_RESIDENTS, Offer};
 use lru::LruCache;
@@ -15,7 +13,8 @@ use std::sync::Arc;
 use sx_cell::Cell;
 use sx_volume::Spot;
 
-/// Frames by their number with their cells. In contracts it is their list with the last used first, and how many places it has.
+/// Frames by their number with their cells. In contracts it is their list with the last used first, and how many places
+/// there are.
 #[derive(Drop)]
 pub struct Residents<S: Spot> {
     cells: LruCache<u32, Arc<Cell<S>>>,
@@ -55,8 +54,8 @@ impl<S: Spot> Residents<S> {
         self.cells.len()
     }
 
-    /// Offers frame k with its cell. Where it is there or has room it is the newest. Else the eldest cell is emptied once:
-    /// where that took its frame the eldest goes for k, and where not the list stays and the offered cell is emptied once.
+    /// Offers frame k with its cell. Where it is there or has room it is the newest. Else the eldest cell is emptied once.
+    /// Where that took its frame the eldest goes for k. Where not, the list stays and the offered cell is emptied once.
     /// Errors: `AllocError` where memory runs out, and then the list is as it was.
     pub fn offer(&mut self, k: u32, cell: &Arc<Cell<S>>) -> Result<Offer, AllocError>
         ensures ok { IfOk result (λ offer. OfferEnds k (arc_value cell.now) offer self.old self.new) }
@@ -79,7 +78,8 @@ impl<S: Spot> Residents<S> {
     // Whether frame k is there or has a place.
     fn has_room(&self, k: u32) -> bool
         ensures room { result ≡ true → HasRoom k self.now }
-        ensures full { result ≡ false → (lookup (nat_eq k) self.now.list ≡ None) × (length self.now.list ≡ self.now.places) × (0 < self.now.places) }
+        ensures no_place { result ≡ false → HasNoPlace k self.now }
+        ensures not_empty { result ≡ false → 0 < length self.now.list }
     {
         self.cells.contains(&k) || self.cells.len() < self.cells.cap().get()
     }
@@ -97,7 +97,7 @@ impl<S: Spot> Residents<S> {
     // The number of the eldest, and whether its cell was emptied by this call.
     fn empty_eldest(&self) -> (u32, bool)
         requires { 0 < length self.now.list }
-        ensures { option_map (λ e. e.0) (last_entry self.now.list) ≡ Some result.0 }
+        ensures { IsEldest self.now result.0 }
     {
         let Some((k, cell)) = self.cells.peek_lru() else {
             unreachable!("the list is not empty");

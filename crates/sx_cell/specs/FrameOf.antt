@@ -6,4 +6,5 @@ use Rattle.sx_frame.specs.declared.frame.Frame.{Frame}
 
 -- The frame has this digest and, where the bytes of the spot are told, is what they decode to.
 abbrev pub IsFrameOf : Option (List ℕ) → List ℕ → Frame → Type 0
-IsFrameOf content digest frame = (sha256 (frame_bytes frame) ≡ digest) × IfSome content (λ bytes. bytes ≡ frame_bytes frame)
+IsFrameOf content digest frame =
+    (sha256 (frame_bytes frame) ≡ digest) × IfSome content (λ bytes. bytes ≡ frame_bytes frame)

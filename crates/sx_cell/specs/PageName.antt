@@ -10,4 +10,5 @@ pub record PageName (S : Type 0) : Type 0 where
 
 abbrev pub page_name_code : {S : Type 0} → Coded S → Coded (PageName S)
 page_name_code {S} spot =
-    code_by (S × (List ℕ × ℕ)) (coded× spot (coded× (coded_list coded_ℕ) coded_ℕ)) (λ n. (n.spot, (n.digest, n.place))) (λ p. record { spot = p.0; digest = p.1.0; place = p.1.1 }) (λ _. refl)
+    code_by (S × (List ℕ × ℕ)) (coded× spot (coded× (coded_list coded_ℕ) coded_ℕ)) (λ n. (n.spot, (n.digest, n.place)))
+    (λ p. record { spot = p.0; digest = p.1.0; place = p.1.1 }) (λ _. refl)

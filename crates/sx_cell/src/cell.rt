@@ -45,7 +45,8 @@ impl<S: Spot> Drop for Cell<S> {
 
 impl<S: Spot> Cell<S> {
     /// A cell of the frame that the spot names, without the frame.
-    /// The place is that of the frame in its volume, in bytes from the start. Errors: `AllocError` where memory runs out.
+    /// The place is that of the frame in its volume, in bytes from the start.
+    /// Errors: `AllocError` where memory runs out.
     pub fn new(
         alloc: Global,
         spot: S,
@@ -84,9 +85,11 @@ impl<S: Spot> Cell<S> {
         self.place
     }
 
-    /// The frame, where it stands in the cell and the turn is won. None says nothing: the frame may be there all the same.
+    /// The frame, where it stands in the cell and the turn is won.
+    /// None says nothing: the frame may be there all the same.
     pub fn peek(&self) -> Option<Arc<Frame>>
-        ensures { IfSome result (λ frame. IsFrameOf (S.content self.now.spot) self.now.digest (arc_value frame)) }
+        ensures { let content = S.content self.now.spot in
+            IfSome result (λ frame. IsFrameOf content self.now.digest (arc_value frame)) }
     {
         let seen = self.slot.load();
         let read = with_reader(seen)?;

@@ -1,4 +1,5 @@
-//! Cells shared by threads, and caches whose order was worked out by hand. The crate has tests, and one look-up by its clauses.
+//! Cells shared by threads, and caches whose order was worked out by hand. The crate has tests, and one look-up with
+//! clauses of its own.
 #![tactic(auto)]
 
 #[cfg(test)]

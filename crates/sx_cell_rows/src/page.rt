@@ -14,7 +14,8 @@ use sx_volume::{MemSpot, Spot};
 pub(crate) struct Page {
     pub cell: Arc<Cell<MemSpot>>,
     pub frame: Arc<Frame>,
-    ghost named: { IsFrameOf (⟦<MemSpot as Spot>⟧.content (arc_value cell).spot) (arc_value cell).digest (arc_value frame) },
+    ghost named: { let content = ⟦<MemSpot as Spot>⟧.content (arc_value cell).spot in
+        IsFrameOf content (arc_value cell).digest (arc_value frame) },
 }
 
 /// A page of this kind, whose body is the text, at a place.
