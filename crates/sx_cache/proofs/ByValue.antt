@@ -12,17 +12,17 @@ use Rattle.lru.specs.LruCache.{LruCache, promoted, put_entries}
 use Rattle.sx_cache.specs.ByUse.{by_value, is_leaf, with_newest}
 
 module _ {K V Z : Type 0} where
-  abbrev pub shared : K × Arc V Z → K × V
-  shared e = (e.0, arc_value e.1)
+  abbrev pub pair_of : K × Arc V Z → K × V
+  pair_of e = (e.0, arc_value e.1)
 
   pub length-by_value : (es : List (K × Arc V Z)) → length (by_value es) ≡ length es
-  length-by_value es = length-map es shared
+  length-by_value es = length-map es pair_of
 
   pub keys-by_value : (es : List (K × Arc V Z)) → keys_of (by_value es) ≡ keys_of es
   keys-by_value [] = refl
   keys-by_value (e ∷ es) = ap (λ l. e.0 ∷ l) (keys-by_value es)
 
-  pub slice_get-by_value : (es : List (K × Arc V Z)) (i : ℕ) → slice_get (by_value es) i ≡ option_map shared (slice_get es i)
+  pub slice_get-by_value : (es : List (K × Arc V Z)) (i : ℕ) → slice_get (by_value es) i ≡ option_map pair_of (slice_get es i)
   slice_get-by_value [] i = refl
   slice_get-by_value (e ∷ es) zero = refl
   slice_get-by_value (e ∷ es) (suc i) = slice_get-by_value es i
@@ -37,22 +37,22 @@ module _ {K V Z : Type 0} where
       | Some a ↦ refl
     ])
 
-    pub lookup_entry-by_value : (es : List (K × Arc V Z)) → lookup_entry test (by_value es) ≡ option_map shared (lookup_entry test es)
+    pub lookup_entry-by_value : (es : List (K × Arc V Z)) → lookup_entry test (by_value es) ≡ option_map pair_of (lookup_entry test es)
     lookup_entry-by_value [] = refl
-    lookup_entry-by_value (e ∷ es) = elim (test e.0) as (λ y. cond y (Some (shared e)) (lookup_entry test (by_value es)) ≡ option_map shared (cond y (Some e) (lookup_entry test es))) [
+    lookup_entry-by_value (e ∷ es) = elim (test e.0) as (λ y. cond y (Some (pair_of e)) (lookup_entry test (by_value es)) ≡ option_map pair_of (cond y (Some e) (lookup_entry test es))) [
       | true ↦ refl
       | false ↦ lookup_entry-by_value es
     ]
 
     pub remove_entry-by_value : (es : List (K × Arc V Z)) → remove_entry test (by_value es) ≡ by_value (remove_entry test es)
     remove_entry-by_value [] = refl
-    remove_entry-by_value (e ∷ es) = elim (test e.0) as (λ y. cond y (by_value es) (shared e ∷ remove_entry test (by_value es)) ≡ by_value (cond y es (e ∷ remove_entry test es))) [
+    remove_entry-by_value (e ∷ es) = elim (test e.0) as (λ y. cond y (by_value es) (pair_of e ∷ remove_entry test (by_value es)) ≡ by_value (cond y es (e ∷ remove_entry test es))) [
       | true ↦ refl
-      | false ↦ ap (λ l. shared e ∷ l) (remove_entry-by_value es)
+      | false ↦ ap (λ l. pair_of e ∷ l) (remove_entry-by_value es)
     ]
 
     pub promoted-by_value : (es : List (K × Arc V Z)) → promoted test (by_value es) ≡ by_value (promoted test es)
-    promoted-by_value es = rw (lookup_entry-by_value es, remove_entry-by_value es) (elim (lookup_entry test es) as (λ o. option_map_or (λ e. e ∷ by_value (remove_entry test es)) (option_map shared o) (by_value es) ≡ by_value (option_map_or (λ e. e ∷ remove_entry test es) o es)) [
+    promoted-by_value es = rw (lookup_entry-by_value es, remove_entry-by_value es) (elim (lookup_entry test es) as (λ o. option_map_or (λ e. e ∷ by_value (remove_entry test es)) (option_map pair_of o) (by_value es) ≡ by_value (option_map_or (λ e. e ∷ remove_entry test es) o es)) [
       | None ↦ refl
       | Some e ↦ refl
     ])
@@ -73,11 +73,11 @@ length-remove_entry test (f ∷ es) e h = (elim (test f.0) as (λ y. test f.0 �
   | false ↦ λ t. let less = length-remove_entry test es e (rw t at h) in rw t (omega arith)
 ]) refl
 
-pub passes : {K V : Type 0} (test : K → Bool) (es : List (K × V)) (e : K × V) → lookup_entry test es ≡ Some e → test e.0 ≡ true
-passes test [] e h = cc
-passes test (f ∷ es) e h = (elim (test f.0) as (λ y. test f.0 ≡ y → test e.0 ≡ true) [
+pub lookup_entry-passes : {K V : Type 0} (test : K → Bool) (es : List (K × V)) (e : K × V) → lookup_entry test es ≡ Some e → test e.0 ≡ true
+lookup_entry-passes test [] e h = cc
+lookup_entry-passes test (f ∷ es) e h = (elim (test f.0) as (λ y. test f.0 ≡ y → test e.0 ≡ true) [
   | true ↦ λ t. let h' = rw t at h in let same : f ≡ e = cc in subst (λ g. test g.0 ≡ true) same t
-  | false ↦ λ t. passes test es e (rw t at h)
+  | false ↦ λ t. lookup_entry-passes test es e (rw t at h)
 ]) refl
 
 -- what stands first once a look-up moved it there
@@ -98,30 +98,30 @@ take-all (suc n) (x ∷ xs) h = ap (λ l. x ∷ l) (take-all n xs (omega arith))
 module _ {K V Z : Type 0} (eq : K → K → Bool) (c : LruCache K (Arc V Z)) (k : K) (v : Arc V Z) where
   -- after `put`, where keys that pass for k are k
   pub put_entries-by_value : ((j : K) → eq k j ≡ true → j ≡ k) → length c.entries ≤ c.cap → by_value (put_entries eq c k v) ≡ with_newest c.cap (eq k) k (arc_value v) (by_value c.entries)
-  put_entries-by_value one fits = rw (remove_entry-by_value (eq k) c.entries, take-map shared (c.cap - 1) (remove_entry (eq k) c.entries)) ((elim (lookup_entry (eq k) c.entries) as (λ o. lookup_entry (eq k) c.entries ≡ o → by_value (option_map_or (λ e. (e.0, v) ∷ remove_entry (eq k) c.entries) o ((k, v) ∷ take (c.cap - 1) c.entries)) ≡ (k, arc_value v) ∷ map shared (take (c.cap - 1) (remove_entry (eq k) c.entries))) [
+  put_entries-by_value one fits = rw (remove_entry-by_value (eq k) c.entries, take-map pair_of (c.cap - 1) (remove_entry (eq k) c.entries)) ((elim (lookup_entry (eq k) c.entries) as (λ o. lookup_entry (eq k) c.entries ≡ o → by_value (option_map_or (λ e. (e.0, v) ∷ remove_entry (eq k) c.entries) o ((k, v) ∷ take (c.cap - 1) c.entries)) ≡ (k, arc_value v) ∷ map pair_of (take (c.cap - 1) (remove_entry (eq k) c.entries))) [
     | None ↦ λ h. rw (remove_entry-missed (eq k) c.entries h) refl
-    | Some e ↦ λ h. let less = length-remove_entry (eq k) c.entries e h in rw (take-all (c.cap - 1) (remove_entry (eq k) c.entries) (omega arith), one e.0 (passes (eq k) c.entries e h)) refl
+    | Some e ↦ λ h. let less = length-remove_entry (eq k) c.entries e h in rw (take-all (c.cap - 1) (remove_entry (eq k) c.entries) (omega arith), one e.0 (lookup_entry-passes (eq k) c.entries e h)) refl
   ]) refl)
 
 pub nat_eq-same : (a b : ℕ) → nat_eq a b ≡ true → b ≡ a
 nat_eq-same a b h = sym (eqb-true a b h)
 
-each : (r leaf a b : ℕ) (x : Bool) → (r == a) ≡ x → (x && (leaf == b)) ≡ true → ◌≡◌ {A = ℕ × ℕ} (a, b) (r, leaf)
-each r leaf a b true e h = rw (eqb-true r a e, eqb-true leaf b h) refl
-each r leaf a b false e h = cc
+leaf_by_parts : (r leaf a b : ℕ) (x : Bool) → (r == a) ≡ x → (x && (leaf == b)) ≡ true → ◌≡◌ {A = ℕ × ℕ} (a, b) (r, leaf)
+leaf_by_parts r leaf a b true e h = rw (eqb-true r a e, eqb-true leaf b h) refl
+leaf_by_parts r leaf a b false e h = cc
 
 pub is_leaf-same : (r leaf : ℕ) (key : ℕ × ℕ) → is_leaf r leaf key ≡ true → key ≡ (r, leaf)
-is_leaf-same r leaf key h = each r leaf key.0 key.1 (r == key.0) refl h
+is_leaf-same r leaf key h = leaf_by_parts r leaf key.0 key.1 (r == key.0) refl h
 
 -- whether a key is there or has a place
-pub there : {V : Type 0} (test : ℕ → Bool) (list : List (ℕ × V)) → is_some (lookup test list) ≡ true → IsSome (lookup test list)
-there test list h = (elim (lookup test list) as (λ o. is_some o ≡ true → IsSome o) [
+pub IsSome-lookup : {V : Type 0} (test : ℕ → Bool) (list : List (ℕ × V)) → is_some (lookup test list) ≡ true → IsSome (lookup test list)
+IsSome-lookup test list h = (elim (lookup test list) as (λ o. is_some o ≡ true → IsSome o) [
   | None ↦ λ e. cc
   | Some v ↦ λ e. refl
 ]) h
 
-pub absent : {V : Type 0} (test : ℕ → Bool) (list : List (ℕ × V)) → is_some (lookup test list) ≡ false → lookup test list ≡ None
-absent test list h = (elim (lookup test list) as (λ o. is_some o ≡ false → o ≡ None) [
+pub lookup-absent : {V : Type 0} (test : ℕ → Bool) (list : List (ℕ × V)) → is_some (lookup test list) ≡ false → lookup test list ≡ None
+lookup-absent test list h = (elim (lookup test list) as (λ o. is_some o ≡ false → o ≡ None) [
   | None ↦ λ e. refl
   | Some v ↦ λ e. cc
 ]) h
