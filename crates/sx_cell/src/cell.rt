@@ -12,6 +12,7 @@ use sx_frame::Frame;
 use sx_volume::Spot;
 
 /// Names a frame of a volume by its spot and its digest, and has room for that frame.
+#[derive(Drop)]
 pub struct Cell<S: Spot> {
     name: Name<S>,
     place: u64,
@@ -29,18 +30,6 @@ impl<S: Spot> Model for Cell<S> {
     ghost view = { λ cell. record { spot = cell.name.spot; digest = cell.name.digest; place = cell.place } };
 
     ghost invariant = { λ cell. (cell.slot ≡ cell.name) × (5 ≤ S.count cell.name.spot) };
-}
-
-impl<S: Spot> Drop for Cell<S> {
-    fn drop(self) {
-        let Cell {
-            name,
-            place: _,
-            slot,
-        } = self;
-        drop(slot);
-        drop(name);
-    }
 }
 
 impl<S: Spot> Cell<S> {
