@@ -16,6 +16,7 @@ mod OrderRows
 mod PathRows
 pub mod Plugging
 mod RefusalRows
+pub mod Revisions
 pub mod Shortest
 pub mod Sound
 pub mod Spelled

@@ -1,0 +1,4 @@
+pub mod Windows
+pub mod Equal
+pub mod LeafWindows
+mod WindowRows
