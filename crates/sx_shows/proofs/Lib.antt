@@ -1,4 +1,5 @@
 pub mod Windows
 pub mod Equal
 pub mod LeafWindows
-mod WindowRows
+pub mod WindowRows
+mod PageRows

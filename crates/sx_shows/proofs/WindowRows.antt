@@ -14,7 +14,7 @@ use Rattle.sx_shows.specs.Leaves.{node_fragments, path_fragments}
 abbrev set : ℕ → List ℕ → Edit
 set k literal = set_scalar k (scalars.Number literal)
 
-abbrev commit : List Edit → Commit
+abbrev pub commit : List Edit → Commit
 commit edits = record { time = pos 1000; edits = edits }
 
 -- the slots with records, and those with tombstones
@@ -29,7 +29,7 @@ all_five = (0 ∷ 1 ∷ 2 ∷ 3 ∷ 4 ∷ [], [])
 
 -- ---- [1,2,3], and then one scalar a commit
 
-abbrev sets : List Commit
+abbrev pub sets : List Commit
 sets = commit (load one_two_three ∷ []) ∷ commit (set 3 (codes "9") ∷ []) ∷ commit (set 2 (codes "8") ∷ []) ∷ commit (set 3 (codes "7") ∷ []) ∷ []
 
 none_at_first : map shape (node_fragments sets 2 0 0) ≡ []
@@ -80,7 +80,7 @@ removed_paths = refl
 
 -- ---- edits that undo each other
 
-abbrev undone : List Commit
+abbrev pub undone : List Commit
 undone = commit (load one_two_three ∷ []) ∷ commit [] ∷ commit (insert (Last 1) None (number (codes "4")) ∷ remove 5 ∷ []) ∷ []
 
 nothing_new : map shape (node_fragments undone 2 0 3) ≡ all_five ∷ []

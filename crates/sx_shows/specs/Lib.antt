@@ -1,3 +1,6 @@
 pub mod Rows
 pub mod Fragments
 pub mod Leaves
+pub mod Seats
+pub mod Pages
+pub mod Shows
