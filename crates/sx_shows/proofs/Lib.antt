@@ -3,3 +3,6 @@ pub mod Equal
 pub mod LeafWindows
 pub mod WindowRows
 mod PageRows
+pub mod Numbers
+pub mod Above
+pub mod Touched

@@ -4,3 +4,4 @@ pub mod Leaves
 pub mod Seats
 pub mod Pages
 pub mod Shows
+pub mod Leads

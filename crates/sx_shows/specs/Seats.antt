@@ -1,5 +1,5 @@
 -- Places in the trees of pages, and the numbers of the frames that are made for them.
-use Rattle.std.specs.Prelude.{ℕ, zero, suc, ◌+◌, ◌*◌, ◌-◌, ◌/◌, ◌==◌, ◌&&◌, Bool, true, false, if◌then◌else◌, List, [], ◌∷◌, ◌++◌, length, map, take}
+use Rattle.std.specs.Prelude.{ℕ, zero, suc, ◌+◌, ◌*◌, ◌/◌, ◌==◌, ◌&&◌, Bool, true, false, if◌then◌else◌, List, [], ◌∷◌, ◌++◌, length, map, take}
 use Rattle.std.specs.List.{list_any}
 
 -- the tree of node fragments, and that of path fragments
@@ -31,8 +31,9 @@ abbrev pub top_seat : Side → Seat
 top_seat side = record { side = side; level = top_level; index = 0 }
 
 -- the seat below a page in a slot
-abbrev pub seat_below : Seat → ℕ → Seat
-seat_below page s = record { side = page.side; level = page.level - 1; index = 64 * page.index + s }
+-- the seat of a level that stands in a slot of the page above it with this index
+abbrev pub seat_below : Side → ℕ → ℕ → ℕ → Seat
+seat_below side level index s = record { side = side; level = level; index = 64 * index + s }
 
 -- ---- the seats over leaves
 
@@ -50,18 +51,18 @@ up (i ∷ is) = unless_first (i / 64) (up is)
 abbrev pub seats_over : ℕ → Side → ℕ → List ℕ → List Seat
 seats_over zero side level indices = []
 seats_over (suc more) side level indices =
-    map (λ i. record { side = side; level = level; index = i }) indices ++ seats_over more side (level + 1) (up indices)
+    map (λ i. record { side = side; level = level; index = i }) indices ++ seats_over more side (suc level) (up indices)
 
 -- all seats over these leaves of a side
 abbrev pub all_seats : Side → List ℕ → List Seat
-all_seats side leaves = seats_over (top_level + 1) side 0 leaves
+all_seats side leaves = seats_over 5 side 0 leaves
 
 -- ---- the numbers of frames
 
 -- the place of a seat in a list, or its length where it is not there
 abbrev pub place_in : List Seat → Seat → ℕ
 place_in [] seat = 0
-place_in (other ∷ seats) seat = if same_seat seat other then 0 else 1 + place_in seats seat
+place_in (other ∷ seats) seat = if same_seat seat other then 0 else suc (place_in seats seat)
 
 -- Over the seats that are new at each revision, in the order of their frames. Each has one frame of that revision. Frames are numbered
 -- over all revisions from 1 on.
@@ -73,16 +74,17 @@ module _ (seats : ℕ → List Seat) where
 
   -- the frame that a revision makes for a seat
   abbrev pub number : ℕ → Seat → ℕ
-  number r seat = frames_up_to (r - 1) + place_in (seats r) seat
+  number zero seat = 0
+  number (suc r) seat = frames_up_to r + place_in (seats (suc r)) seat
 
   -- a revision makes a frame for the seat
   abbrev pub is_new : ℕ → Seat → Bool
   is_new r seat = list_any (same_seat seat) (seats r)
 
-  -- the revisions up to this one that make a frame for the seat, newest first
+  -- the frames that are made for the seat up to a revision, newest first
   abbrev pub made : ℕ → Seat → List ℕ
   made zero seat = []
-  made (suc r) seat = if is_new (suc r) seat then suc r ∷ made r seat else made r seat
+  made (suc r) seat = if is_new (suc r) seat then number (suc r) seat ∷ made r seat else made r seat
 
 -- how many frames of a seat of this level are referred to, under a window
 abbrev pub most : ℕ → ℕ → ℕ
@@ -97,4 +99,4 @@ root_reference (frame ∷ frames) = frame + 1
 module _ (seats : ℕ → List Seat) (w : ℕ) where
   -- the frames that a revision refers to for a seat, newest first: the last one of a page, and of a leaf as many as the window says
   abbrev pub references : ℕ → Seat → List ℕ
-  references r seat = take (most w seat.level) (map (λ m. number seats m seat) (made seats r seat))
+  references r seat = take (most w seat.level) (made seats r seat)

@@ -40,7 +40,7 @@ leaf_body commits w r Paths l = newest_body path_spelling l (path_fragments comm
 abbrev pub body_at : List Commit → ℕ → ℕ → Side → ℕ → ℕ → List ℕ
 body_at commits w r side zero index = leaf_body commits w r side index
 body_at commits w r side (suc level) index =
-    page_body (suc level) index (λ s. references (new_seats commits) w r (seat_below (record { side = side; level = suc level; index = index }) s))
+    page_body (suc level) index (λ s. references (new_seats commits) w r (seat_below side level index s))
 
 abbrev pub frame_of : List Commit → ℕ → ℕ → Seat → Frame
 frame_of commits w r seat = record { kind = kind_at seat.side seat.level; body = body_at commits w r seat.side seat.level seat.index }
