@@ -1,12 +1,10 @@
 //! The open edits are made a revision.
 ghost use Rattle.std.specs.Prelude.{◌≡◌, ◌+◌, ◌<◌, ◌≤◌, ◌≤ℤ◌, ◌≢◌, ◌↔◌, ◌⊎◌, ◌++◌, [], ◌∷◌, List, ℕ, ℤ, IfOk, take, drop, vec_len, vec_capacity, None, Some, Err, IfErr, IfSome, IsErrOf, IsSome, OnErr, OnOk, FitsSigned};
-ghost use Rattle.std.specs.Int.{w64};
 ghost use Rattle.sx_bytes.specs.declared.damage.Damage.{Damage};
 ghost use Rattle.sx_layout.specs.FrameGroup.{FrameGroup};
 ghost use Rattle.sx_log.specs.Calls.{GoesOn};
 ghost use Rattle.sx_log.specs.Committing.{HoldsNext, IsNext, KeepsLog, OnlyHolds, SameLog, sealed_bytes};
 ghost use Rattle.sx_log.specs.Kept.{listed, row_at};
-ghost use Rattle.sx_outside.specs.Clock.{Ticks};
 ghost use Rattle.sx_outside.specs.Faults.{Rose};
 ghost use Rattle.sx_reader.specs.Cells.{IsCell, placed};
 ghost use Rattle.sx_run.specs.Run.{Book, current, next_commit};
@@ -24,7 +22,6 @@ use crate::fault::{CommitFault, Committed};
 use crate::group::{NewGroup, make_group};
 use std::alloc::{AllocError, Global};
 use std::sync::Arc;
-use sx_outside::Clock;
 use sx_reader::{Cell, cell_in};
 use sx_root::RevisionRoot;
 use sx_volume::{ReadEnd, Spot, Volume};
@@ -32,57 +29,8 @@ use sx_volume::{ReadEnd, Spot, Volume};
 /// Bytes of a group with one frame in front of the frame.
 const FRAME_PLACE: u64 = 116;
 
-/// Makes the open edits a revision, as the writer does.
-pub(crate) fn commit<V: Volume, C: Clock>(
-    alloc: Global,
-    ledger: &mut Ledger<V::Spot>,
-    volume: &mut V,
-    end: &mut V::End,
-    clock: &mut C,
-) -> Result<Committed, CommitFault>
-    requires sound { IsSound V.Volume V.Spot.Spot volume.old ledger.old }
-    ensures sound { IsSound V.Volume V.Spot.Spot volume.new ledger.new }
-    ensures commits { V.End.tells end.old → (book : Book) → Shows V.Spot.Spot ledger.old book → stage_of ledger.old ≡ None
-        → (moment : ℤ) × FitsSigned w64 moment × Ticks (C.moments clock.old) moment (C.moments clock.new)
-        × (IfSome (V.bytes volume.old) (λ _. Commits V.Spot.Spot book (next_commit book moment) result ledger.new
-        × Leaves (birth_in ledger.old) book (next_commit book moment) result (V.moment volume.old) (V.was_image volume.new) (V.synced volume.new))) }
-    ensures ticks { stage_of ledger.old ≡ None → (moment : ℤ) × FitsSigned w64 moment × Ticks (C.moments clock.old) moment (C.moments clock.new) }
-    ensures goes_on { OnOk result (stage_of ledger.new ≡ None) }
-    ensures fails { (stage : ℕ) → IsErrOf result (CommitFault.Failed stage) → stage_of ledger.new ≡ Some stage }
-    ensures stopped { (stage : ℕ) → IsErrOf result (CommitFault.Stopped stage) ↔ (stage_of ledger.old ≡ Some stage) }
-    ensures same_clock { (stage : ℕ) → stage_of ledger.old ≡ Some stage → C.moments clock.new ≡ C.moments clock.old }
-    ensures same_volume { (stage : ℕ) → stage_of ledger.old ≡ Some stage → volume.new ≡ volume.old }
-    ensures same_stopped { (stage : ℕ) → stage_of ledger.old ≡ Some stage → ledger.new ≡ ledger.old }
-    ensures same_ledger { IfErr result (λ fault. IsNoFailure fault → SameBut ledger.old ledger.new
-        × SameDraft V.Spot.Spot (V.End.tells end.old) ledger.old ledger.new) }
-    ensures same_bytes { IfErr result (λ fault. IsNoFailure fault → V.bytes volume.new ≡ V.bytes volume.old) }
-    ensures read_failed { IsErrOf result CommitFault.ReadFailed → Rose (V.End.faults end.old) (V.End.faults end.new) }
-    ensures damaged { (damage : Damage) → IsErrOf result (CommitFault.Damaged damage)
-        → IsCommitDamage V.Spot.Spot (V.End.tells end.old) ledger.old.draft ledger.old damage }
-    ensures same_birth { birth_in ledger.new ≡ birth_in ledger.old }
-    ensures counts { count_of ledger.old ≤ count_of ledger.new }
-    ensures grows { IfSome (V.bytes volume.old) (λ _. GrowsFrom V.Spot.Spot ledger.old ledger.new) }
-    ensures keeps { stage_of ledger.old ≡ None → HoldAll V.Spot.Spot (V.bytes volume.old) (V.was_image volume.new (V.moment volume.old)) ledger.old }
-    ensures told { IsSome (V.bytes volume.old) → IsSome (V.bytes volume.new) }
-    ensures time { Elapses (V.moment volume.old) (V.moment volume.new) (V.was_image volume.old) (V.was_image volume.new) (V.synced volume.old) (V.synced volume.new) }
-    ensures cause { IfErr result (λ fault. (stage : ℕ) → fault ≡ CommitFault.Failed stage → Rose (V.faults volume.old) (V.faults volume.new)) }
-    ensures no_fault { ((stage : ℕ) → IsErrOf result (CommitFault.Failed stage) → ⊥) → V.faults volume.new ≡ V.faults volume.old }
-    ensures never_falls { V.faults volume.old ≤ V.faults volume.new }
-    ensures one_read { V.End.reads end.new ≤ V.End.reads end.old + 1 }
-    ensures goes_on_telling { V.End.tells end.old → V.End.tells end.new }
-    ensures end_never_falls { V.End.faults end.old ≤ V.End.faults end.new }
-{
-    if let Some(stage) = ledger.stopped {
-        return Err(CommitFault::Stopped { stage });
-    }
-    let last = ledger.root(ledger.count());
-    let time = clock.now().max(last.time);
-    let group = next_group(alloc, ledger, end, &last, time)?;
-    add(alloc, ledger, volume, group)
-}
-
-// The group of the open edits, which follows the last revision and has this time. The open edits are the same after it.
-fn next_group<S: Spot, E: ReadEnd<Spot = S>>(
+/// The group of the open edits, which follows the last revision and has this time. The open edits are the same after it.
+pub(crate) fn next_group<S: Spot, E: ReadEnd<Spot = S>>(
     alloc: Global,
     ledger: &mut Ledger<S>,
     end: &mut E,
@@ -118,8 +66,8 @@ fn next_group<S: Spot, E: ReadEnd<Spot = S>>(
     made
 }
 
-// Makes the group a revision.
-fn add<V: Volume>(
+/// Makes the group a revision.
+pub(crate) fn add<V: Volume>(
     alloc: Global,
     ledger: &mut Ledger<V::Spot>,
     volume: &mut V,

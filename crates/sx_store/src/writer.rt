@@ -12,7 +12,7 @@ ghost use Rattle.sx_store.specs.Shows.{Shows, birth_in, count_of, stage_of};
 ghost use Rattle.sx_store.specs.Sound.{GrowsFrom, HoldAll, IsSound, IsWhole, SameBut, SameDraft};
 ghost use Rattle.sx_volume.specs.Images.{Elapses};
 
-use crate::commit::commit;
+use crate::commit::{add, next_group};
 use crate::fault::{CommitFault, Committed, WriterFault};
 use crate::ledger::Ledger;
 use std::alloc::Global;
@@ -131,6 +131,12 @@ impl<V: Volume> Writer<'_, V> {
         ensures goes_on_telling { V.End.tells end.old → V.End.tells end.new }
         ensures end_never_falls { V.End.faults end.old ≤ V.End.faults end.new }
     {
-        commit(alloc, &mut self.ledger, self.volume, end, clock)
+        if let Some(stage) = self.ledger.stopped {
+            return Err(CommitFault::Stopped { stage });
+        }
+        let last = self.ledger.root(self.ledger.count());
+        let time = clock.now().max(last.time);
+        let group = next_group(alloc, &mut self.ledger, end, &last, time)?;
+        add(alloc, &mut self.ledger, self.volume, group)
     }
 }
