@@ -2,26 +2,22 @@
 ghost use Rattle.std.specs.Prelude.{◌≡◌, ◌+◌, ◌≤◌, ◌≢◌, ◌↔◌, ◌<◌, ◌^◌, ℕ, None, Some, IfErr, IfOk, IfSome, IsErrOf, IsSome, OnErr, OnOk, FitsSigned, ℤ, List, length};
 ghost use Rattle.sx_bytes.specs.declared.damage.Damage.{Damage};
 ghost use Rattle.sx_model.specs.Commit.{state_of};
-ghost use Rattle.sx_model.specs.Edit.{IsEdit, edit_of};
 ghost use Rattle.sx_outside.specs.Faults.{Rose};
 ghost use Rattle.sx_query.specs.Causes.{IsAboutNode};
 ghost use Rattle.sx_query.specs.Gives.{Gives, IsText};
 ghost use Rattle.sx_reader.specs.Asked.{ExplainsSome, KeepAll};
 ghost use Rattle.sx_run.specs.Run.{Book};
-ghost use Rattle.sx_store.specs.Damage.{HasNoNode, IsTakenDamage, IsEditDamage, IsMadeOf, IsQueryDamage, root_at};
-ghost use Rattle.sx_store.specs.Edits.{Edits};
+ghost use Rattle.sx_store.specs.Damage.{HasNoNode, IsTakenDamage, IsMadeOf, IsQueryDamage, root_at};
 ghost use Rattle.sx_store.specs.Shows.{IsDraftOf, Shows, count_of, frames_in, names_in, next_of, stage_of};
-ghost use Rattle.sx_store.specs.Sound.{IsWhole, SameBut, SameDraft};
+ghost use Rattle.sx_store.specs.Sound.{IsWhole, SameBut};
 ghost use Rattle.sx_tree.specs.declared.query.Query.TheVariants as queries;
 
 use crate::draft::{Draft, draft_of};
-use crate::fault::WriterFault;
 use std::alloc::Global;
 use sx_log::Log;
 use sx_query::About;
 use sx_reader::{Cell, check_frames, read_document};
 use sx_root::RevisionRoot;
-use sx_tree::edit::{Edit, Edited};
 use sx_tree::query::{Answer, Query};
 use sx_view::{Fault, QueryFault};
 use sx_volume::{ReadEnd, Spot};
@@ -135,37 +131,6 @@ impl<S: Spot> Ledger<S> {
         ensures never_falls { E.faults end.old ≤ E.faults end.new }
     {
         check_frames(alloc, end, &self.log, &self.cells)
-    }
-
-    /// Takes an edit, as the writer does.
-    pub(crate) fn edit<E: ReadEnd<Spot = S>>(
-        &mut self,
-        alloc: Global,
-        end: &mut E,
-        edit: &Edit,
-    ) -> Result<Edited, WriterFault>
-        requires whole { IsWhole S.Spot self.old }
-        requires within { IsEdit (edit_of edit.now) }
-        ensures edited { E.tells end.old → (book : Book) → Shows S.Spot self.old book → stage_of self.old ≡ None
-            → Edits S.Spot book (edit_of edit.now) result self.new }
-        ensures stopped { (stage : ℕ) → IsErrOf result (WriterFault.Stopped stage) ↔ (stage_of self.old ≡ Some stage) }
-        ensures failed { IsErrOf result WriterFault.Failed → Rose (E.faults end.old) (E.faults end.new) }
-        ensures damaged { (damage : Damage) → IsErrOf result (WriterFault.Damaged damage)
-            → IsEditDamage S.Spot (E.tells end.old) (edit_of edit.now) self.old.draft self.old damage }
-        ensures refused { OnErr result (SameDraft S.Spot (E.tells end.old) self.old self.new) }
-        ensures same_stopped { (stage : ℕ) → stage_of self.old ≡ Some stage → self.new ≡ self.old }
-        ensures same { SameBut self.old self.new }
-        ensures one_read { E.reads end.new ≤ E.reads end.old + 1 }
-        ensures goes_on_telling { E.tells end.old → E.tells end.new }
-        ensures never_falls { E.faults end.old ≤ E.faults end.new }
-    {
-        if let Some(stage) = self.stopped {
-            return Err(WriterFault::Stopped { stage });
-        }
-        let mut draft = self.take_draft(alloc, end)?;
-        let edited = draft.apply(alloc, edit);
-        self.draft = Some(draft);
-        Ok(edited?)
     }
 
     // The draft, which is made of the last revision where no edit is open.

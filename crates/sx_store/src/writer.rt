@@ -62,7 +62,13 @@ impl<V: Volume> Writer<'_, V> {
         ensures goes_on_telling { V.End.tells end.old → V.End.tells end.new }
         ensures never_falls { V.End.faults end.old ≤ V.End.faults end.new }
     {
-        self.ledger.edit(alloc, end, edit)
+        if let Some(stage) = self.ledger.stopped {
+            return Err(WriterFault::Stopped { stage });
+        }
+        let mut draft = self.ledger.take_draft(alloc, end)?;
+        let edited = draft.apply(alloc, edit);
+        self.ledger.draft = Some(draft);
+        Ok(edited?)
     }
 
     /// Drops the open edits. The next number is the last commit's again.
