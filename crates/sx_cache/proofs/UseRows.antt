@@ -2,7 +2,7 @@
 use Rattle.std.proofs.Common.{◌≡◌, ℕ, List, [], ◌∷◌, Some, None, inl, inr, refl, arith}
 use Rattle.std.specs.Map.{lookup}
 use Rattle.lru.specs.LruCache.{promoted}
-use Rattle.sx_cell.specs.PageName.{PageName}
+use Rattle.sx_cell.specs.declared.name.Name.{Name}
 use Rattle.sx_cache.specs.ByUse.{is_leaf, with_newest}
 use Rattle.sx_cache.specs.OfferEnds.{OfferEnds}
 use Rattle.sx_cache.specs.ResidentList.{ResidentList}
@@ -34,7 +34,7 @@ pub there_is_a_place : with_newest 4 (is_leaf 3 0) (3, 0) 30 leaves ≡ ((3, 0),
 there_is_a_place = refl
 
 -- names of frames that differ by their places
-abbrev pub name : ℕ → PageName ℕ
+abbrev pub name : ℕ → Name ℕ
 name place = record { spot = 0; digest = []; place = place }
 
 -- frame 9 was offered last, then frame 4, and both places are taken

@@ -2,7 +2,7 @@
 use Rattle.std.specs.Prelude.{ℕ, ◌≡◌, ◌<◌, ◌⊎◌, IsSome, None, Some, length, nat_eq, option_map}
 use Rattle.std.specs.Map.{lookup}
 use Rattle.lru.specs.LruCache.{last_entry}
-use Rattle.sx_cell.specs.PageName.{PageName}
+use Rattle.sx_cell.specs.declared.name.Name.{Name}
 use Rattle.sx_cache.specs.ByUse.{with_newest}
 use Rattle.sx_cache.specs.ResidentList.{ResidentList}
 use Rattle.sx_cache.specs.declared.offer.Offer.{Offer}
@@ -22,11 +22,11 @@ module _ {S : Type 0} (k : ℕ) (old : ResidentList S) where
   HasNoPlace = (lookup (nat_eq k) old.list ≡ None) × (length old.list ≡ old.places)
 
   -- frame k is the newest, and the others follow as far as there are places
-  abbrev pub IsNewest : PageName S → ResidentList S → Type 0
+  abbrev pub IsNewest : Name S → ResidentList S → Type 0
   IsNewest cell new = new ≡ record old { list = with_newest old.places (nat_eq k) k cell old.list }
 
 -- By cases. Which of the last two comes is free, since whether a cell was emptied is.
-abbrev pub OfferEnds : {S : Type 0} → ℕ → PageName S → Offer → ResidentList S → ResidentList S → Type 0
+abbrev pub OfferEnds : {S : Type 0} → ℕ → Name S → Offer → ResidentList S → ResidentList S → Type 0
 OfferEnds k cell Kept old new = HasRoom k old × IsNewest k old cell new
 OfferEnds k cell (Evicted e) old new = HasNoPlace k old × IsEldest old e × IsNewest k old cell new
 OfferEnds k cell (KeptOut e) old new = HasNoPlace k old × IsEldest old e × (new ≡ old)

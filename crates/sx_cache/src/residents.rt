@@ -22,11 +22,9 @@ pub struct Residents<S: Spot> {
 
 impl<S: Spot> Model for Residents<S> {
     ghost use Rattle.sx_cache.specs.ByUse.{by_value};
-    ghost use Rattle.sx_cache.specs.ResidentList.{ResidentList, resident_list_code};
+    ghost use Rattle.sx_cache.specs.ResidentList.{ResidentList};
 
     ghost Value = { ResidentList S };
-
-    ghost coded = { resident_list_code S.code };
 
     ghost view = { λ it. record { list = by_value it.cells.entries; places = it.cells.cap } };
 }

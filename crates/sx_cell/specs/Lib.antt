@@ -1,2 +1,1 @@
 pub mod FrameOf
-pub mod PageName

@@ -12,24 +12,29 @@ use sx_frame::Frame;
 use sx_volume::Spot;
 
 /// Names a frame of a volume by its spot and its digest, and has room for that frame.
-#[derive(Drop)]
 pub struct Cell<S: Spot> {
     name: Name<S>,
-    place: u64,
     slot: Counted<Option<Filled<S>>>,
 }
 
 impl<S: Spot> Model for Cell<S> {
     ghost use Rattle.std.specs.Prelude.{◌≡◌, ◌≤◌};
-    ghost use Rattle.sx_cell.specs.PageName.{PageName, page_name_code};
+    ghost use Rattle.sx_cell.specs.declared.name.Name.{Name};
 
-    ghost Value = { PageName S };
+    ghost Value = { Name S };
 
-    ghost coded = { page_name_code S.code };
-
-    ghost view = { λ cell. record { spot = cell.name.spot; digest = cell.name.digest; place = cell.place } };
+    ghost view = { λ cell. cell.name };
 
     ghost invariant = { λ cell. (cell.slot ≡ cell.name) × (5 ≤ S.count cell.name.spot) };
+}
+
+// Written out: a derived drop is proved once more in each crate above.
+impl<S: Spot> Drop for Cell<S> {
+    fn drop(self) {
+        let Cell { name, slot } = self;
+        drop(slot);
+        drop(name);
+    }
 }
 
 impl<S: Spot> Cell<S> {
@@ -47,9 +52,13 @@ impl<S: Spot> Cell<S> {
         ensures digest { IfOk result (λ cell. (arc_value cell).digest ≡ digest) }
         ensures place { IfOk result (λ cell. (arc_value cell).place ≡ place) }
     {
-        let name = Name { spot, digest };
+        let name = Name {
+            spot,
+            digest,
+            place,
+        };
         let slot = Counted::new(None, &name);
-        Ok(Arc::new(alloc, Cell { name, place, slot })?)
+        Ok(Arc::new(alloc, Cell { name, slot })?)
     }
 
     /// Where the frame is read. It has at least the 5 bytes that each frame has.
@@ -71,7 +80,7 @@ impl<S: Spot> Cell<S> {
     pub fn place(&self) -> u64
         ensures { result ≡ self.now.place }
     {
-        self.place
+        self.name.place
     }
 
     /// The frame, where it stands in the cell and the turn is won.

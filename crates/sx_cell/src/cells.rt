@@ -17,12 +17,9 @@ pub struct Cells<S: Spot> {
 impl<S: Spot> Model for Cells<S> {
     ghost use Rattle.std.specs.Prelude.{List, map};
     ghost use Rattle.std.specs.Arc.{arc_value};
-    ghost use Rattle.std.specs.Coded.{coded_list};
-    ghost use Rattle.sx_cell.specs.PageName.{PageName, page_name_code};
+    ghost use Rattle.sx_cell.specs.declared.name.Name.{Name};
 
-    ghost Value = { List (PageName S) };
-
-    ghost coded = { coded_list (page_name_code S.code) };
+    ghost Value = { List (Name S) };
 
     ghost view = { λ it. map arc_value it.cells.items };
 }

@@ -8,11 +8,15 @@ use std::sync::Arc;
 use sx_frame::Frame;
 use sx_volume::Spot;
 
-/// Where a frame stands in a volume, and the SHA-256 of its bytes.
+/// Names a frame of a volume. In contracts a cell is its name: whether the frame stands in the cell is not told.
 #[derive(Drop)]
 pub(crate) struct Name<S: Spot> {
+    /// Where the frame is read.
     pub spot: S,
+    /// The SHA-256 of the frame's bytes.
     pub digest: [u8; 32],
+    /// The place of the frame in its volume, in bytes from the start.
+    pub place: u64,
 }
 
 /// A frame that stands in a cell.
