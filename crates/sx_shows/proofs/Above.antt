@@ -1,11 +1,11 @@
 -- The pages above what is new are new.
-use Rattle.std.proofs.Common.{◌≡◌, ◌∙◌, ◌⊎◌, ℕ, zero, suc, ◌+◌, ◌*◌, ◌/◌, ◌<◌, ◌≤◌, Bool, true, false, if◌then◌else◌, List, [], ◌∷◌, ◌++◌, inl, inr, refl, ap, sym, subst, arith}
-use Rattle.std.specs.Prelude.{◌&&◌, ◌||◌, ◌==◌, cond, filter, map}
-use Rattle.std.specs.List.{list_any, range_with_len}
+use Rattle.std.proofs.Common.{◌≡◌, ◌∙◌, ◌⊎◌, ℕ, zero, suc, ◌+◌, ◌*◌, ◌/◌, ◌<◌, ◌≤◌, Bool, true, false, if◌then◌else◌, List, [], ◌∷◌, ◌++◌, inl, inr, refl, ap, sym, arith}
+use Rattle.std.specs.Prelude.{◌&&◌, ◌||◌, ◌==◌, map}
+use Rattle.std.specs.List.{list_any}
 use Rattle.std.proofs.lemmas.Bool.Decides.{Decides-eqb}
 use Rattle.std.proofs.lemmas.List.Folds.{list_any-append}
 use Rattle.sx_shows.specs.Seats.{Nodes, Paths, Seat, Side, all_seats, same_seat, same_side, seat_below, seats_over, unless_first, up}
-use Rattle.sx_shows.proofs.Numbers.{both, seat_is}
+use Rattle.sx_shows.proofs.Numbers.{seat_is}
 
 -- ---- tests
 

@@ -1,7 +1,6 @@
 -- Rows that a test finds equal are equal.
-use Rattle.std.proofs.Common.{◌≡◌, ◌∙◌, ℕ, zero, suc, Bool, true, false, List, Option, Some, None, refl, ap, sym}
+use Rattle.std.proofs.Common.{◌≡◌, ◌∙◌, ℕ, zero, suc, Bool, true, false, Option, Some, None, refl, ap, sym}
 use Rattle.std.specs.Prelude.{◌&&◌, ◌==◌, bytes_eq}
-use Rattle.std.specs.Option.{option_eq}
 use Rattle.std.proofs.lemmas.Bool.Decides.{Decides-eqb}
 use Rattle.std.proofs.lemmas.Slice.Eq.{bytes_eq-Decides}
 use Rattle.sx_tree.specs.Record.{kind_byte}
@@ -10,7 +9,6 @@ use Rattle.sx_tree.specs.declared.record.Kind.TheVariants.{Document, Object, Arr
 use Rattle.sx_tree.specs.declared.record.Step.{Step}
 use Rattle.sx_tree.specs.declared.record.Step.TheVariants.{Top, Item, Name}
 use Rattle.sx_model.specs.Paths.{same_step}
-use Rattle.sx_model.specs.Records.{NodeRow, PathRow}
 use Rattle.sx_shows.specs.Rows.{same_kin, same_link, same_node, same_numbers, same_path_row}
 use Rattle.sx_shows.proofs.Windows.{Tells}
 

@@ -1,5 +1,5 @@
 -- The window law of the leaves of nodes and of paths.
-use Rattle.std.proofs.Common.{◌≡◌, ◌∙◌, ◌⊎◌, ℕ, zero, suc, ◌+◌, ◌*◌, ◌<◌, ◌≤◌, Bool, true, false, List, Option, Some, None, inl, inr, refl, ap, sym, arith}
+use Rattle.std.proofs.Common.{◌≡◌, ◌∙◌, ◌⊎◌, ℕ, zero, suc, ◌+◌, ◌*◌, ◌≤◌, Bool, true, false, List, Option, Some, None, inl, inr, refl, ap, sym, arith}
 use Rattle.std.specs.Prelude.{cond}
 use Rattle.std.specs.Ordering.{eq_by_cmp, nat_cmp}
 use Rattle.std.specs.Option.{option_or}
@@ -9,7 +9,7 @@ use Rattle.sx_model.specs.Records.{NodeRow, PathRow, entry, node}
 use Rattle.sx_model.specs.State.{State, empty_document}
 use Rattle.sx_model.specs.Sound.{IsSound}
 use Rattle.sx_model.proofs.Revisions.{document_there, revision-sound}
-use Rattle.sx_shows.specs.Fragments.{Absent, Slot, merged, newest, recorded}
+use Rattle.sx_shows.specs.Fragments.{Slot, newest, recorded}
 use Rattle.sx_shows.specs.Leaves.{NodesAreTold, PathsAreTold, node_fragments, node_leaf, path_fragments, path_leaf}
 use Rattle.sx_shows.specs.Rows.{same_node, same_path_row}
 use Rattle.sx_shows.proofs.Equal.{node-tells, path_row-tells}

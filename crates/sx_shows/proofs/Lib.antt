@@ -6,3 +6,6 @@ mod PageRows
 pub mod Numbers
 pub mod Above
 pub mod Touched
+pub mod Leading
+pub mod ShownLeads
+pub mod Ruling

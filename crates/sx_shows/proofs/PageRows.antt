@@ -1,16 +1,13 @@
 -- The frames of small documents: their seats, lengths and numbers.
-use Rattle.std.proofs.Common.{◌≡◌, ℕ, suc, ◌+◌, ◌*◌, List, [], ◌∷◌, length, refl}
+use Rattle.std.proofs.Common.{◌≡◌, ◌+◌, ◌*◌, [], ◌∷◌, length, refl}
 use Rattle.std.specs.Prelude.{map, pos}
 use Rattle.sha2.specs.Sha256.{sha256, digest_bytes, hash_after, compress, rounds, schedule, first_words}
-use Rattle.sx_layout.specs.FrameGroup.{FrameGroup, frame_group_bytes, gate_behind, group_size}
-use Rattle.sx_model.specs.Commit.{Commit}
+use Rattle.sx_layout.specs.FrameGroup.{frame_group_bytes, gate_behind}
 use Rattle.sx_record.specs.Spelling.{node_bytes, path_bytes}
 use Rattle.sx_root.specs.Root.{root_bytes}
-use Rattle.sx_root.specs.declared.root.RevisionRoot.{RevisionRoot}
-use Rattle.sx_shows.specs.Fragments.{touched}
-use Rattle.sx_shows.specs.Seats.{Nodes, Paths, all_seats, references}
-use Rattle.sx_shows.specs.Shows.{frames_of, group_of, head_of, new_seats, root_of}
-use Rattle.sx_shows.proofs.WindowRows.{commit, sets, undone}
+use Rattle.sx_shows.specs.Seats.{Nodes, all_seats, references}
+use Rattle.sx_shows.specs.Shows.{frames_of, group_of, new_seats}
+use Rattle.sx_shows.proofs.WindowRows.{sets, undone}
 
 -- ---- [1,2,3]
 

@@ -1,13 +1,13 @@
 -- A leaf has a new seat exactly where it is touched.
-use Rattle.std.proofs.Common.{◌≡◌, ◌∙◌, ◌⊎◌, ℕ, zero, suc, ◌+◌, ◌*◌, ◌-◌, ◌/◌, ◌<◌, ◌≤◌, Bool, true, false, not, List, [], ◌∷◌, ◌++◌, length, Option, Some, None, inl, inr, refl, ap, sym, subst, arith}
-use Rattle.std.specs.Prelude.{◌||◌, ◌==◌, cond, filter, map}
+use Rattle.std.proofs.Common.{◌≡◌, ◌∙◌, ◌⊎◌, ℕ, zero, suc, ◌+◌, ◌*◌, ◌-◌, ◌<◌, ◌≤◌, Bool, true, false, not, List, [], ◌∷◌, ◌++◌, length, Option, Some, None, inl, inr, refl, ap, arith}
+use Rattle.std.specs.Prelude.{◌==◌, cond, filter, map}
 use Rattle.std.specs.List.{list_any, range_with_len}
 use Rattle.std.specs.Option.{option_eq}
 use Rattle.std.proofs.lemmas.Bool.Decides.{Decides-eqb}
 use Rattle.sx_model.specs.Commit.{Commit, IsLegal, state_of}
-use Rattle.sx_model.specs.Records.{NodeRow, PathRow, entry, node}
+use Rattle.sx_model.specs.Records.{entry, node}
 use Rattle.sx_model.proofs.Revisions.{entry_beyond, node_beyond, revision-sound, revision_grows}
-use Rattle.sx_shows.specs.Fragments.{changed, slots, touched}
+use Rattle.sx_shows.specs.Fragments.{changed, touched}
 use Rattle.sx_shows.specs.Leaves.{node_leaf, path_leaf}
 use Rattle.sx_shows.specs.Rows.{same_node, same_path_row}
 use Rattle.sx_shows.specs.Seats.{Nodes, Paths, Seat, Side, all_seats, is_new, seats_over, up}

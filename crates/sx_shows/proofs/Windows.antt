@@ -1,13 +1,12 @@
 -- The window law: what the fragments of a leaf tell together is the leaf.
-use Rattle.std.proofs.Common.{◌≡◌, ◌∙◌, ◌⊎◌, ℕ, zero, suc, ◌+◌, ◌-◌, ◌<◌, ◌≤◌, Bool, true, false, not, if◌then◌else◌, List, [], ◌∷◌, length, take, Option, Some, None, inl, inr, refl, ap, sym, subst, arith}
+use Rattle.std.proofs.Common.{◌≡◌, ◌∙◌, ◌⊎◌, ℕ, zero, suc, ◌-◌, ◌<◌, ◌≤◌, Bool, true, false, not, if◌then◌else◌, List, [], ◌∷◌, length, take, Option, Some, None, inl, inr, refl, ap, sym, subst, arith}
 use Rattle.std.specs.Option.{option_eq}
-use Rattle.std.specs.List.{list_any, range_with_len}
 use Rattle.std.specs.Prelude.{get_or, ◌==◌}
 use Rattle.std.proofs.lemmas.List.{length-take}
 use Rattle.std.proofs.lemmas.List.Folds.{list_any_at}
-use Rattle.std.proofs.lemmas.List.FromFn.{get_or-range_with_len, length-range_with_len}
+use Rattle.std.proofs.lemmas.List.FromFn.{get_or-range_with_len}
 use Rattle.std.proofs.lemmas.Bool.Decides.{nat_tests}
-use Rattle.sx_shows.specs.Fragments.{Slot, Absent, Tombstone, Record, Fragment, as_carried, as_changed, changed, fragments, merged, new_slot, newest, or_older, recorded, slots, touched, unless_younger}
+use Rattle.sx_shows.specs.Fragments.{Slot, Absent, Tombstone, Record, Fragment, as_carried, as_changed, changed, fragments, new_slot, newest, or_older, recorded, slots, touched, unless_younger}
 
 -- a slot tells of a row, where it has nothing only as long as the row is the first one
 abbrev pub IsTold : {Row : Type 0} → Slot Row → Option Row → Option Row → Type 0

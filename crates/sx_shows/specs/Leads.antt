@@ -1,7 +1,6 @@
 -- What the pages lead to from the root of a revision.
-use Rattle.std.specs.Prelude.{ℕ, zero, suc, ◌≡◌, ◌+◌, ◌-◌, ◌/◌, ◌%◌, ◌^◌, ◌<◌, ◌≤◌, List, [], ◌∷◌, ◌++◌, length, take, drop, slice_get, Some}
+use Rattle.std.specs.Prelude.{ℕ, zero, suc, ◌≡◌, ◌/◌, ◌%◌, ◌^◌, ◌<◌, ◌≤◌, List, [], ◌∷◌, ◌++◌, length, take, drop, slice_get, Some}
 use Rattle.sx_frame.specs.Frame.{frame_bytes}
-use Rattle.sx_frame.specs.declared.frame.Frame.{Frame}
 use Rattle.sx_frame.specs.declared.table.FrameRow.{FrameRow}
 use Rattle.sx_layout.specs.FrameGroup.{FrameGroup, frames_after}
 use Rattle.sx_model.specs.Commit.{Commit}

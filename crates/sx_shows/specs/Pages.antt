@@ -1,11 +1,11 @@
 -- The bytes of frames: fragments, and pages of references.
-use Rattle.std.specs.Prelude.{ℕ, zero, suc, ◌+◌, ◌^◌, Bool, true, false, if◌then◌else◌, List, [], ◌∷◌, ◌++◌, length, flat_map, sum_by}
+use Rattle.std.specs.Prelude.{ℕ, zero, suc, ◌^◌, Bool, true, false, if◌then◌else◌, List, [], ◌∷◌, ◌++◌, length, flat_map, sum_by}
 use Rattle.std.specs.Int.{to_be_bytes, w32, w64}
 use Rattle.sx_tree.specs.Record.{kind_byte}
 use Rattle.sx_record.specs.Spelling.{link_number, node_bytes, path_bytes, step_byte, step_name}
 use Rattle.sx_model.specs.Records.{NodeRow, PathRow}
 use Rattle.sx_shows.specs.Fragments.{Absent, Fragment, Record, Slot, Tombstone, is_record, is_tombstone, slots}
-use Rattle.sx_shows.specs.Seats.{Nodes, Paths, Seat, Side}
+use Rattle.sx_shows.specs.Seats.{Nodes, Paths, Side}
 
 -- the spelling of the record with this row
 abbrev pub node_spelling : NodeRow → List ℕ

@@ -1,10 +1,11 @@
 -- Which groups of frames show which commits.
-use Rattle.std.specs.Prelude.{ℕ, zero, suc, ◌≡◌, ◌+◌, ◌-◌, ◌/◌, List, [], ◌∷◌, ◌++◌, length, map, filter, take}
-use Rattle.std.specs.List.{range_with_len}
+use Rattle.std.specs.Prelude.{ℕ, zero, suc, ◌≡◌, ◌+◌, ◌-◌, ◌/◌, ◌≤◌, List, ◌++◌, length, map, filter, take}
+use Rattle.std.specs.List.{AllByRecursion, range_with_len}
 use Rattle.sx_frame.specs.Frame.{frame_bytes}
 use Rattle.sx_frame.specs.declared.frame.Frame.{Frame}
 use Rattle.sx_layout.specs.Birth.{Birth}
-use Rattle.sx_layout.specs.FrameGroup.{FrameGroup, group_of_frames, joined}
+use Rattle.sx_layout.specs.FrameGroup.{FrameGroup, frames_after, group_limit, group_of_frames, group_size, joined}
+use Rattle.sx_layout.specs.Rules.{log_limit}
 use Rattle.sx_model.specs.Commit.{Commit, IsLegal, first_time, last_time, state_of}
 use Rattle.sx_model.specs.Tree.{size}
 use Rattle.sx_root.specs.declared.root.RevisionRoot.{RevisionRoot}
@@ -77,3 +78,12 @@ group_of commits w r = group_of_frames (head_of commits w r (length (joined (fra
 pub record Shows (birth : Birth) (groups : List FrameGroup) (commits : List Commit) : Type 0 where
   pub legal : IsLegal commits
   pub groups_are : groups ≡ map (group_of commits birth.window) (range_with_len 1 (length commits))
+
+-- The group is within the limits on revisions, frames and bytes.
+pub record IsWithin (group : FrameGroup) : Type 0 where
+  pub revisions : group.root.revision ≤ log_limit
+  pub frames : frames_after group.root ≤ log_limit
+  pub bytes : group_size group.root.frames group.root.body ≤ group_limit
+
+abbrev pub AreWithin : List FrameGroup → Type 0
+AreWithin groups = AllByRecursion IsWithin groups

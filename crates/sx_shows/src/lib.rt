@@ -5,4 +5,4 @@
 
 mod laws;
 
-pub use laws::{window_of_nodes, window_of_paths};
+pub use laws::{counts_keep, one_list, order_keeps, pages_lead, window_of_nodes, window_of_paths};
