@@ -30,7 +30,6 @@ top_level = 4
 abbrev pub top_seat : Side → Seat
 top_seat side = record { side = side; level = top_level; index = 0 }
 
--- the seat below a page in a slot
 -- the seat of a level that stands in a slot of the page above it with this index
 abbrev pub seat_below : Side → ℕ → ℕ → ℕ → Seat
 seat_below side level index s = record { side = side; level = level; index = 64 * index + s }
