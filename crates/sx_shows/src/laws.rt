@@ -20,21 +20,25 @@ pub fn window_of_paths()
 
 /// The groups that show commits under a birth are one list.
 pub fn one_list()
-    ensures { (birth : Birth) (groups others : List FrameGroup) (commits : List Commit) → Shows birth groups commits → Shows birth others commits → groups ≡ others }
+    ensures { (birth : Birth) (groups others : List FrameGroup) (commits : List Commit)
+        → Shows birth groups commits → Shows birth others commits → groups ≡ others }
 {}
 
 /// From the roots of each revision the pages lead to the frames of each leaf's fragments, newest first.
 pub fn pages_lead()
-    ensures { (birth : Birth) (groups : List FrameGroup) (commits : List Commit) (place : ℕ) (group : FrameGroup) → Shows birth groups commits
-        → 1 ≤ birth.window → slice_get groups place ≡ Some group → LeavesLead birth.window groups commits (place + 1) group }
+    ensures { (birth : Birth) (groups : List FrameGroup) (commits : List Commit) (place : ℕ) (group : FrameGroup)
+        → Shows birth groups commits → 1 ≤ birth.window → slice_get groups place ≡ Some group
+        → LeavesLead birth.window groups commits (place + 1) group }
 {}
 
 /// Groups that show commits keep what opening asks of the numbers of their trees and of the lengths of their frames.
 pub fn counts_keep()
-    ensures { (birth : Birth) (groups : List FrameGroup) (commits : List Commit) → Shows birth groups commits → KeepCounts first_root groups }
+    ensures { (birth : Birth) (groups : List FrameGroup) (commits : List Commit)
+        → Shows birth groups commits → KeepCounts first_root groups }
 {}
 
 /// Within the limits they follow one another as opening asks.
 pub fn order_keeps()
-    ensures { (birth : Birth) (groups : List FrameGroup) (commits : List Commit) → Shows birth groups commits → AreWithin groups → Follow first_root groups }
+    ensures { (birth : Birth) (groups : List FrameGroup) (commits : List Commit)
+        → Shows birth groups commits → AreWithin groups → Follow first_root groups }
 {}
